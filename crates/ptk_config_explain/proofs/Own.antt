@@ -1,12 +1,14 @@
 -- A partition's windows, one by one.
-use Rattle.std.proofs.Common.{◌≡◌, ◌∙◌, ℕ, ◌+◌, ◌<◌, Bool, true, false, List, [], ◌∷◌, ◌++◌, Option, flat_map, take, get_or, length, cond, codes, refl, sym, ap, subst, append_assoc, append-nil}
+use Rattle.std.proofs.Common.{◌≡◌, ◌∙◌, ℕ, ◌+◌, ◌<◌, Bool, true, false, List, [], ◌∷◌, ◌++◌, Option, map, take, get_or, length, cond, codes, refl, sym, ap, subst, append_assoc, append-nil}
 use Rattle.std.specs.Prelude.{◌==◌}
+use Rattle.std.specs.List.{concat}
 use Rattle.std.specs.Io.KnownBytes.{Appends}
 use Rattle.std.proofs.KnownBytes.{Appends-trans}
-use Rattle.std.proofs.lemmas.Grind.{flat_map-append}
+use Rattle.std.proofs.lemmas.List.{map-append}
 use Rattle.std.proofs.lemmas.List.Elements.{filter_more}
+use Rattle.std.proofs.lemmas.List.Folds.{concat-append}
 use Rattle.ptk_words_windows.specs.declared.window.Window.{Window}
-use Rattle.ptk_config_explain.specs.Table.{own_windows, window_words, windows_words}
+use Rattle.ptk_config_explain.specs.Table.{next_window_words, own_windows, window_words, windows_words}
 
 -- what stands before a window, after these
 abbrev pub separator : List Window → List ℕ
@@ -17,11 +19,13 @@ separator (window ∷ windows) = codes ", "
 words_more : (ws : List Window) (w : Window) → windows_words (ws ++ w ∷ []) ≡ windows_words ws ++ (separator ws ++ window_words w)
 words_more [] w = ap (λ (t : List ℕ). codes ": " ++ t) (append-nil (window_words w))
 words_more (v ∷ vs) w =
-    let others : flat_map (λ u. codes ", " ++ window_words u) (vs ++ w ∷ []) ≡ flat_map (λ u. codes ", " ++ window_words u) vs ++ (codes ", " ++ window_words w) =
-    flat_map-append (λ u. codes ", " ++ window_words u) vs (w ∷ []) ∙ ap (λ (t : List ℕ). flat_map (λ u. codes ", " ++ window_words u) vs ++ t) (append-nil (codes ", " ++ window_words w)) in
+    let others : concat (map next_window_words (vs ++ w ∷ [])) ≡ concat (map next_window_words vs) ++ next_window_words w =
+    ap concat (map-append next_window_words vs (w ∷ []))
+    ∙ (concat-append (map next_window_words vs) (next_window_words w ∷ [])
+    ∙ ap (λ (t : List ℕ). concat (map next_window_words vs) ++ t) (append-nil (next_window_words w))) in
     ap (λ (t : List ℕ). codes ": " ++ (window_words v ++ t)) others
-    ∙ (ap (λ (t : List ℕ). codes ": " ++ t) (sym (append_assoc (window_words v) (flat_map (λ u. codes ", " ++ window_words u) vs) (codes ", " ++ window_words w)))
-    ∙ sym (append_assoc (codes ": ") (window_words v ++ flat_map (λ u. codes ", " ++ window_words u) vs) (codes ", " ++ window_words w)))
+    ∙ (ap (λ (t : List ℕ). codes ": " ++ t) (sym (append_assoc (window_words v) (concat (map next_window_words vs)) (next_window_words w)))
+    ∙ sym (append_assoc (codes ": ") (window_words v ++ concat (map next_window_words vs)) (next_window_words w)))
 
 -- there is one before
 separator_more : (ws : List Window) (w : Window) → separator (ws ++ w ∷ []) ≡ codes ", "

@@ -1,5 +1,5 @@
 -- What the partitions of an accepted configuration have, in words.
-use Rattle.std.specs.Prelude.{ℕ, ◌*◌, ◌/◌, ◌%◌, ◌==◌, List, [], ◌∷◌, ◌++◌, filter, sum_by, flat_map, if◌then◌else◌, codes, decimal}
+use Rattle.std.specs.Prelude.{ℕ, ◌*◌, ◌/◌, ◌%◌, ◌==◌, List, [], ◌∷◌, ◌++◌, filter, sum_by, map, flat_map, if◌then◌else◌, codes, decimal}
 use Rattle.std.specs.List.{concat, enumerate_from}
 use Rattle.ptk_words.specs.declared.sections.Limits.{Limits}
 use Rattle.ptk_words_windows.specs.declared.window.Window.{Window}
@@ -30,12 +30,16 @@ ticks_of windows = sum_by (λ window. window.length) windows
 
 -- a window (own)
 abbrev pub window_words : Window → List ℕ
-window_words window = decimal window.length ++ (codes " ticks at " ++ decimal window.start)
+window_words window = concat (decimal window.length ∷ codes " ticks at " ∷ decimal window.start ∷ [])
+
+-- a window behind another (own)
+abbrev pub next_window_words : Window → List ℕ
+next_window_words window = codes ", " ++ window_words window
 
 -- windows, with a colon before the first and a comma before each other (own)
 abbrev pub windows_words : List Window → List ℕ
 windows_words [] = []
-windows_words (window ∷ windows) = codes ": " ++ (window_words window ++ flat_map (λ other. codes ", " ++ window_words other) windows)
+windows_words (window ∷ windows) = concat (codes ": " ∷ window_words window ∷ map next_window_words windows)
 
 -- the thousandths of a frame that so many ticks are, cut
 abbrev pub thousandths : ℕ → ℕ → ℕ
@@ -43,7 +47,7 @@ thousandths ticks frame = ticks * 1000 / frame
 
 -- thousandths as percent, with one decimal (own)
 abbrev pub percent : ℕ → List ℕ
-percent n = decimal (n / 10) ++ (codes "." ++ decimal (n % 10))
+percent n = concat (decimal (n / 10) ∷ codes "." ∷ decimal (n % 10) ∷ [])
 
 -- the part of a frame that these windows are, in percent, and the windows (own)
 abbrev pub share_line : ℕ → List Window → List ℕ

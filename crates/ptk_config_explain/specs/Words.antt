@@ -23,48 +23,52 @@ abbrev pub section_words : ℕ → Option (List ℕ) → List ℕ
 section_words n (Some name) = concat (codes "section " ∷ decimal n ∷ codes " \"" ∷ name ∷ codes "\"" ∷ [])
 section_words n None = codes "section " ++ decimal n
 
--- a window behind the plan that it is of (own)
-abbrev pub window_of_plan : ℕ → List ℕ
-window_of_plan n = codes ", window " ++ decimal n
+-- an input by its number (own)
+abbrev pub input_words : ℕ → List ℕ
+input_words n = codes "input " ++ decimal n
 
--- a window of the top, or of a plan (own)
-abbrev pub window_words : ℕ → ℕ → List ℕ
-window_words stage n =
-    if stage == 0 then codes "window " ++ decimal n else codes "plan " ++ (decimal stage ++ window_of_plan n)
+-- a plan by its number (own)
+abbrev pub plan_words : ℕ → List ℕ
+plan_words n = codes "plan " ++ decimal n
+
+-- a window by its number (own)
+abbrev pub window_words : ℕ → List ℕ
+window_words n = codes "window " ++ decimal n
 
 -- a table (own)
 abbrev pub table_words : TablePlace → Option (List ℕ) → List ℕ
 table_words table.Top name = codes "the document"
 table_words (table.Section n) name = section_words n name
-table_words (table.Input n i) name = section_words n name ++ (codes ", input " ++ decimal i)
-table_words (table.Plan n) name = codes "plan " ++ decimal n
-table_words (table.Window stage n) name = window_words stage n
+table_words (table.Input n i) name = concat (section_words n name ∷ codes ", " ∷ input_words i ∷ [])
+table_words (table.Plan n) name = plan_words n
+table_words (table.Window stage n) name =
+    if stage == 0 then window_words n else concat (plan_words stage ∷ codes ", " ∷ window_words n ∷ [])
 
 -- what stands before a key: its table, unless that is the document's own (own)
 abbrev pub within_words : TablePlace → Option (List ℕ) → List ℕ
 within_words table.Top name = []
 within_words t name = table_words t name ++ codes ", "
 
+-- a key (own)
+abbrev pub key_words : Key → List ℕ
+key_words k = codes "key " ++ key_name k
+
 -- an item of the array of a key (own)
 abbrev pub item_words : Key → ℕ → List ℕ
-item_words k n = key_name k ++ (codes ", item " ++ decimal n)
+item_words k n = concat (key_words k ∷ codes ", item " ∷ decimal n ∷ [])
 
 -- a place, in the section of this name (own)
 abbrev pub place_words : Place → Option (List ℕ) → List ℕ
 place_words place.Text name = codes "the text"
 place_words (place.Table t) name = table_words t name
-place_words (place.Key t k) name = within_words t name ++ (codes "key " ++ key_name k)
-place_words (place.Item t k n) name = within_words t name ++ (codes "key " ++ item_words k n)
+place_words (place.Key t k) name = within_words t name ++ key_words k
+place_words (place.Item t k n) name = within_words t name ++ item_words k n
 
 -- ---- reasons
 
--- two bounds (own)
-abbrev pub from_to : ℕ → ℕ → List ℕ
-from_to low high = decimal low ++ (codes " to " ++ decimal high)
-
 -- a number out of bounds (own)
 abbrev pub outside : ℤ → ℕ → ℕ → List ℕ
-outside n low high = signed_decimal n ++ (codes " is not from " ++ from_to low high)
+outside n low high = concat (signed_decimal n ∷ codes " is not from " ∷ decimal low ∷ codes " to " ∷ decimal high ∷ [])
 
 -- a number that is no multiple of 16 (own)
 abbrev pub no_multiple : ℤ → List ℕ
@@ -78,11 +82,11 @@ large_stacks threads stack memory =
 
 -- a count out of bounds (own)
 abbrev pub miscounted : ℕ → ℕ → ℕ → List ℕ
-miscounted n low high = decimal n ++ (codes " items, not " ++ from_to low high)
+miscounted n low high = concat (decimal n ∷ codes " items, not " ∷ decimal low ∷ codes " to " ∷ decimal high ∷ [])
 
 -- a value of another kind than is wanted (own)
 abbrev pub other_kind : List ℕ → List ℕ → List ℕ
-other_kind found wanted = found ++ (codes ", not " ++ wanted)
+other_kind found wanted = concat (found ∷ codes ", not " ∷ wanted ∷ [])
 
 -- a key that a table may not have, where it can be shown (own)
 abbrev pub unknown_key : Option (List ℕ) → List ℕ
