@@ -8,7 +8,7 @@ use Rattle.std.proofs.lemmas.List.{map-append}
 use Rattle.std.proofs.lemmas.List.Elements.{filter_more}
 use Rattle.std.proofs.lemmas.List.Folds.{concat-append}
 use Rattle.ptk_words_windows.specs.declared.window.Window.{Window}
-use Rattle.ptk_config_explain.specs.Table.{next_window_words, own_windows, window_words, windows_words}
+use Rattle.ptk_config_explain.specs.Table.{next_ticks_words, own_windows, ticks_words, ticks_list}
 
 -- what stands before a window, after these
 abbrev pub separator : List Window → List ℕ
@@ -16,16 +16,16 @@ separator [] = codes ": "
 separator (window ∷ windows) = codes ", "
 
 -- the words of windows and one more
-words_more : (ws : List Window) (w : Window) → windows_words (ws ++ w ∷ []) ≡ windows_words ws ++ (separator ws ++ window_words w)
-words_more [] w = ap (λ (t : List ℕ). codes ": " ++ t) (append-nil (window_words w))
+words_more : (ws : List Window) (w : Window) → ticks_list (ws ++ w ∷ []) ≡ ticks_list ws ++ (separator ws ++ ticks_words w)
+words_more [] w = ap (λ (t : List ℕ). codes ": " ++ t) (append-nil (ticks_words w))
 words_more (v ∷ vs) w =
-    let others : concat (map next_window_words (vs ++ w ∷ [])) ≡ concat (map next_window_words vs) ++ next_window_words w =
-    ap concat (map-append next_window_words vs (w ∷ []))
-    ∙ (concat-append (map next_window_words vs) (next_window_words w ∷ [])
-    ∙ ap (λ (t : List ℕ). concat (map next_window_words vs) ++ t) (append-nil (next_window_words w))) in
-    ap (λ (t : List ℕ). codes ": " ++ (window_words v ++ t)) others
-    ∙ (ap (λ (t : List ℕ). codes ": " ++ t) (sym (append_assoc (window_words v) (concat (map next_window_words vs)) (next_window_words w)))
-    ∙ sym (append_assoc (codes ": ") (window_words v ++ concat (map next_window_words vs)) (next_window_words w)))
+    let others : concat (map next_ticks_words (vs ++ w ∷ [])) ≡ concat (map next_ticks_words vs) ++ next_ticks_words w =
+    ap concat (map-append next_ticks_words vs (w ∷ []))
+    ∙ (concat-append (map next_ticks_words vs) (next_ticks_words w ∷ [])
+    ∙ ap (λ (t : List ℕ). concat (map next_ticks_words vs) ++ t) (append-nil (next_ticks_words w))) in
+    ap (λ (t : List ℕ). codes ": " ++ (ticks_words v ++ t)) others
+    ∙ (ap (λ (t : List ℕ). codes ": " ++ t) (sym (append_assoc (ticks_words v) (concat (map next_ticks_words vs)) (next_ticks_words w)))
+    ∙ sym (append_assoc (codes ": ") (ticks_words v ++ concat (map next_ticks_words vs)) (next_ticks_words w)))
 
 -- there is one before
 separator_more : (ws : List Window) (w : Window) → separator (ws ++ w ∷ []) ≡ codes ", "
@@ -50,13 +50,13 @@ own_same p ws i w lt is other =
 
 -- what is written after one more window
 pub appends_own : (p : ℕ) (ws : List Window) (i : ℕ) (w : Window) (a b c : Option (List ℕ)) (before : List ℕ) → i < length ws → get_or ws i w ≡ w → (w.partition == p) ≡ true
-    → before ≡ separator (own_windows p (take i ws)) → Appends a b (windows_words (own_windows p (take i ws))) → Appends b c (before ++ window_words w)
-    → Appends a c (windows_words (own_windows p (take (i + 1) ws)))
+    → before ≡ separator (own_windows p (take i ws)) → Appends a b (ticks_list (own_windows p (take i ws))) → Appends b c (before ++ ticks_words w)
+    → Appends a c (ticks_list (own_windows p (take (i + 1) ws)))
 appends_own p ws i w a b c before lt is own sep done more =
-    let text : windows_words (own_windows p (take i ws)) ++ (before ++ window_words w) ≡ windows_words (own_windows p (take (i + 1) ws)) =
-    ap (λ (t : List ℕ). windows_words (own_windows p (take i ws)) ++ (t ++ window_words w)) sep
-    ∙ (sym (words_more (own_windows p (take i ws)) w) ∙ ap windows_words (sym (own_more p ws i w lt is own))) in
-    subst (λ (t : List ℕ). Appends a c t) text (Appends-trans a b c (windows_words (own_windows p (take i ws))) (before ++ window_words w) done more)
+    let text : ticks_list (own_windows p (take i ws)) ++ (before ++ ticks_words w) ≡ ticks_list (own_windows p (take (i + 1) ws)) =
+    ap (λ (t : List ℕ). ticks_list (own_windows p (take i ws)) ++ (t ++ ticks_words w)) sep
+    ∙ (sym (words_more (own_windows p (take i ws)) w) ∙ ap ticks_list (sym (own_more p ws i w lt is own))) in
+    subst (λ (t : List ℕ). Appends a c t) text (Appends-trans a b c (ticks_list (own_windows p (take i ws))) (before ++ ticks_words w) done more)
 
 -- what stands before the next
 pub separator_own : (p : ℕ) (ws : List Window) (i : ℕ) (w : Window) → i < length ws → get_or ws i w ≡ w → (w.partition == p) ≡ true

@@ -64,14 +64,14 @@ first_refused outcomes = option_or (position is_missing outcomes) (position is_r
 -- ---- words
 
 -- why bytes are no image (own)
-abbrev pub fault_words : ImageFault → List ℕ
-fault_words image.Short = codes "the image is shorter than its header"
-fault_words image.Magic = codes "the image does not begin with PTKI"
-fault_words image.Version = codes "the image has an unknown version"
-fault_words image.Length = codes "the image has other lengths than its header says"
-fault_words image.Entry = codes "the entry of the image is misplaced"
-fault_words image.Memory = codes "out of memory"
-fault_words image.Unfit = codes "the image does not fit into its partition"
+abbrev pub image_fault_words : ImageFault → List ℕ
+image_fault_words image.Short = codes "the image is shorter than its header"
+image_fault_words image.Magic = codes "the image does not begin with PTKI"
+image_fault_words image.Version = codes "the image has an unknown version"
+image_fault_words image.Length = codes "the image has other lengths than its header says"
+image_fault_words image.Entry = codes "the entry of the image is misplaced"
+image_fault_words image.Memory = codes "out of memory"
+image_fault_words image.Unfit = codes "the image does not fit into its partition"
 
 -- what stands behind the number of free bytes (own)
 abbrev pub bytes_free : List ℕ
@@ -81,7 +81,7 @@ bytes_free = codes " bytes free below the stacks"
 abbrev pub outcome_words : Outcome → List ℕ
 outcome_words (Unnamed free) = decimal free ++ bytes_free
 outcome_words Missing = codes "no such file"
-outcome_words (Refused fault) = fault_words fault
+outcome_words (Refused fault) = image_fault_words fault
 outcome_words (Unfit filled room) =
     concat (decimal filled ∷ codes " bytes where " ∷ decimal room ∷ codes " are below the stacks" ∷ [])
 outcome_words (Accepted text data_bytes bss free) =

@@ -208,21 +208,21 @@ abbrev pub overlap_words : Members → ℕ → ℕ → List ℕ
 overlap_words document stage n =
     words_of overlaps (first_above (λ other. are_overlapping (span_at document stage n) (span_at document stage other)) n 65)
 
--- a window (own)
-abbrev pub window_words : Members → ℕ → ℕ → WindowFault → List ℕ
-window_words document stage n window.Short = short ((span_at document stage n).1 - (span_at document stage n).0)
-window_words document stage n window.PastFrame = past_frame (span_at document stage n).1 (unwrap_or (number_at document at.Top key.Frame) 0)
-window_words document stage n window.UnknownPartition = words_of (λ name. no_section (shown name)) (text_at document (at.Window stage n) key.Partition)
-window_words document stage n window.Overlap = overlap_words document stage n
-window_words document stage n window.Empty = codes "no window"
-window_words document stage n window.Memory = refused
-window_words document stage n window.OutOfOrder = refused
+-- why a window is refused (own)
+abbrev pub window_fault_words : Members → ℕ → ℕ → WindowFault → List ℕ
+window_fault_words document stage n window.Short = short ((span_at document stage n).1 - (span_at document stage n).0)
+window_fault_words document stage n window.PastFrame = past_frame (span_at document stage n).1 (unwrap_or (number_at document at.Top key.Frame) 0)
+window_fault_words document stage n window.UnknownPartition = words_of (λ name. no_section (shown name)) (text_at document (at.Window stage n) key.Partition)
+window_fault_words document stage n window.Overlap = overlap_words document stage n
+window_fault_words document stage n window.Empty = codes "no window"
+window_fault_words document stage n window.Memory = refused
+window_fault_words document stage n window.OutOfOrder = refused
 
--- the windows (own)
-abbrev pub windows_words : Members → Place → WindowFault → List ℕ
-windows_words document (place.Table (at.Window stage n)) f = window_words document stage n f
-windows_words document (place.Key t k) f = codes "no window"
-windows_words document p f = refused
+-- why the windows at a place are refused (own)
+abbrev pub windows_fault_words : Members → Place → WindowFault → List ℕ
+windows_fault_words document (place.Table (at.Window stage n)) f = window_fault_words document stage n f
+windows_fault_words document (place.Key t k) f = codes "no window"
+windows_fault_words document p f = refused
 
 -- a table with an unknown key (own)
 abbrev pub keys_words : Members → Place → List ℕ
@@ -232,15 +232,15 @@ keys_words document p = refused
 -- ---- a refusal
 
 -- why a place of a document is refused (own)
-abbrev pub fault_words : Members → Place → ConfigFault → List ℕ
-fault_words document p fault.MissingKey = codes "missing"
-fault_words document p fault.WrongType = words_of (λ d. other_kind (kind_of d) (kind_at p)) (value_there document p)
-fault_words document p fault.OutOfRange = range_words document p
-fault_words document p fault.UnknownKey = keys_words document p
-fault_words document p fault.DoubledName = words_of (name_words document) (section_of p)
-fault_words document p (fault.Window f) = windows_words document p f
-fault_words document p fault.Text = refused
-fault_words document p fault.Memory = refused
+abbrev pub config_fault_words : Members → Place → ConfigFault → List ℕ
+config_fault_words document p fault.MissingKey = codes "missing"
+config_fault_words document p fault.WrongType = words_of (λ d. other_kind (kind_of d) (kind_at p)) (value_there document p)
+config_fault_words document p fault.OutOfRange = range_words document p
+config_fault_words document p fault.UnknownKey = keys_words document p
+config_fault_words document p fault.DoubledName = words_of (name_words document) (section_of p)
+config_fault_words document p (fault.Window f) = windows_fault_words document p f
+config_fault_words document p fault.Text = refused
+config_fault_words document p fault.Memory = refused
 
 -- the name of the section that a place is in, where it can be shown (own)
 abbrev pub shown_name : Members → Place → Option (List ℕ)
@@ -249,5 +249,5 @@ shown_name document p = section_of p >>= name_at document >>= shown
 -- the line of a refusal of a document (own)
 abbrev pub refusal_line : Members → Refusal → List ℕ
 refusal_line document r =
-    concat (place_words r.place (shown_name document r.place) ∷ codes ": " ∷ fault_words document r.place r.fault ∷
-    newline ∷ [])
+    concat (place_words r.place (shown_name document r.place) ∷ codes ": " ∷
+    config_fault_words document r.place r.fault ∷ newline ∷ [])

@@ -26,6 +26,6 @@ IsLine text (Some document) refusal before after = Appends before after (refusal
 IsLine text None refusal before after = IsUnread text before after
 
 -- nothing was written of an accepted text, else its line
-abbrev pub IsExplained : List ℕ → Option Refusal → Option (List ℕ) → Option (List ℕ) → Type 0
-IsExplained text None before after = after ≡ before
-IsExplained text (Some refusal) before after = IsLine text (parse_document text) refusal before after
+abbrev pub IsRefusalExplained : List ℕ → Option Refusal → Option (List ℕ) → Option (List ℕ) → Type 0
+IsRefusalExplained text None before after = after ≡ before
+IsRefusalExplained text (Some refusal) before after = IsLine text (parse_document text) refusal before after

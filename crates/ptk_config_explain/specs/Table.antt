@@ -28,18 +28,18 @@ own_windows partition windows = filter (λ window. window.partition == partition
 abbrev pub ticks_of : List Window → ℕ
 ticks_of windows = sum_by (λ window. window.length) windows
 
--- a window (own)
-abbrev pub window_words : Window → List ℕ
-window_words window = concat (decimal window.length ∷ codes " ticks at " ∷ decimal window.start ∷ [])
+-- the ticks of a window: how many, and the first (own)
+abbrev pub ticks_words : Window → List ℕ
+ticks_words window = concat (decimal window.length ∷ codes " ticks at " ∷ decimal window.start ∷ [])
 
--- a window behind another (own)
-abbrev pub next_window_words : Window → List ℕ
-next_window_words window = codes ", " ++ window_words window
+-- the ticks of a window behind another (own)
+abbrev pub next_ticks_words : Window → List ℕ
+next_ticks_words window = codes ", " ++ ticks_words window
 
--- windows, with a colon before the first and a comma before each other (own)
-abbrev pub windows_words : List Window → List ℕ
-windows_words [] = []
-windows_words (window ∷ windows) = concat (codes ": " ∷ window_words window ∷ map next_window_words windows)
+-- the ticks of windows, with a colon before the first and a comma before each other (own)
+abbrev pub ticks_list : List Window → List ℕ
+ticks_list [] = []
+ticks_list (window ∷ windows) = concat (codes ": " ∷ ticks_words window ∷ map next_ticks_words windows)
 
 -- the thousandths of a frame that so many ticks are, cut
 abbrev pub thousandths : ℕ → ℕ → ℕ
@@ -54,7 +54,7 @@ abbrev pub share_line : ℕ → List Window → List ℕ
 share_line frame windows =
     if ticks_of windows == 0 then codes "no window" ++ newline
     else concat (percent (thousandths (ticks_of windows) frame) ∷ codes " percent of the frame" ∷
-    windows_words windows ∷ newline ∷ [])
+    ticks_list windows ∷ newline ∷ [])
 
 -- what a partition has of each frame from this one on (own)
 abbrev pub stage_line : ℕ → ℕ → Stage → List ℕ

@@ -65,7 +65,7 @@ impl Outcome {
 
 /// Why bytes are no image, in words.
 fn words_of(fault: ImageFault) -> &'static str
-    ensures { result.now ≡ images.fault_words fault }
+    ensures { result.now ≡ images.image_fault_words fault }
 {
     match fault {
         ImageFault::Short => "the image is shorter than its header",

@@ -82,7 +82,7 @@ fn kind_at(place: Place) -> &'static str
 
 /// The reason where a value has the wrong type.
 fn other_kind(document: &Table, place: Place) -> Reason<'_>
-    ensures { words.reason_words result ≡ why.fault_words (table_view document.now) place ConfigFault.WrongType }
+    ensures { words.reason_words result ≡ why.config_fault_words (table_view document.now) place ConfigFault.WrongType }
 {
     match value_there(document, place) {
         Some(value) => Reason::OtherKind(kind(value), kind_at(place)),
@@ -418,7 +418,7 @@ fn past_frame(document: &Table, end: u64) -> Reason<'_>
 
 /// The reason where a window is refused.
 fn window_reason(document: &Table, stage: usize, window: usize, fault: WindowFault) -> Reason<'_>
-    ensures { words.reason_words result ≡ why.window_words (table_view document.now) stage window fault }
+    ensures { words.reason_words result ≡ why.window_fault_words (table_view document.now) stage window fault }
 {
     let (start, end) = span(document, stage, window);
     match fault {
@@ -433,7 +433,7 @@ fn window_reason(document: &Table, stage: usize, window: usize, fault: WindowFau
 
 /// The reason where the windows are refused.
 fn windows_reason(document: &Table, place: Place, fault: WindowFault) -> Reason<'_>
-    ensures { words.reason_words result ≡ why.windows_words (table_view document.now) place fault }
+    ensures { words.reason_words result ≡ why.windows_fault_words (table_view document.now) place fault }
 {
     match place {
         Place::Table(TablePlace::Window(stage, window)) => {
@@ -466,7 +466,7 @@ fn name_reason(document: &Table, place: Place) -> Reason<'_>
 
 /// Why a document is refused.
 pub(crate) fn reason_of<'a>(document: &'a Table, refusal: &Refusal) -> Reason<'a>
-    ensures { words.reason_words result ≡ why.fault_words (table_view document.now) refusal.now.place refusal.now.fault }
+    ensures { words.reason_words result ≡ why.config_fault_words (table_view document.now) refusal.now.place refusal.now.fault }
 {
     let place = refusal.place;
     match refusal.fault {

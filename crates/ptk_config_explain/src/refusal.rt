@@ -6,7 +6,7 @@ ghost use Rattle.toml.specs.View.{table_view};
 ghost use Rattle.toml.specs.Errors.{IsMemory, IsWithin, span_start};
 ghost use Rattle.ptk_config_places.specs.Refusals.{text_walk, refusal_of};
 ghost use Rattle.ptk_config_explain.specs.Reasons.{refusal_line};
-ghost use Rattle.ptk_config_explain.specs.Refused.{line_at, unread_line, IsExplained};
+ghost use Rattle.ptk_config_explain.specs.Refused.{line_at, unread_line, IsRefusalExplained};
 ghost use Rattle.ptk_config_explain.specs.declared.refusal.ExplainFault.TheVariants as failure;
 
 use crate::reason::{name_of, reason_of};
@@ -101,7 +101,7 @@ pub fn explain_refusal<W: Write>(
     out: &mut W,
 ) -> Result<Option<Refusal>, ExplainFault>
     ensures place { IfOk result (λ found. found ≡ refusal_of (text_walk text.now)) }
-    ensures written { IfOk result (λ found. IsExplained text.now found (W.contents out.old) (W.contents out.new)) }
+    ensures written { IfOk result (λ found. IsRefusalExplained text.now found (W.contents out.old) (W.contents out.new)) }
     ensures accepted { IfOk result (λ found. found ≡ None → out.new ≡ out.old) }
     ensures silent { IfErr result (λ fault. fault ≢ ExplainFault.Write → out.new ≡ out.old) }
 {

@@ -41,7 +41,7 @@ fn put_limits<W: Write>(limits: &Limits, out: &mut W) -> Result<(), ExplainFault
 /// Writes a window, with what stands before it.
 fn put_window<W: Write>(separator: &str, window: &Window, out: &mut W) -> Result<(), ExplainFault>
     ensures written { OnOk result (Appends (W.contents out.old) (W.contents out.new)
-        (separator.now ++ table.window_words window.now)) }
+        (separator.now ++ table.ticks_words window.now)) }
     ensures failed { IfErr result (λ fault. fault ≡ ExplainFault.Write) }
 {
     let (start, length) = (window.start, window.length);
@@ -57,7 +57,7 @@ fn put_windows<W: Write>(
     out: &mut W,
 ) -> Result<(), ExplainFault>
     ensures written { OnOk result (Appends (W.contents out.old) (W.contents out.new)
-        (table.windows_words (table.own_windows partition windows.now))) }
+        (table.ticks_list (table.own_windows partition windows.now))) }
     ensures failed { IfErr result (λ fault. fault ≡ ExplainFault.Write) }
 {
     let mut separator = ": ";

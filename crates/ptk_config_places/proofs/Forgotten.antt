@@ -27,7 +27,7 @@ use Rattle.ptk_config_places.specs.declared.place.Place.{Place}
 use Rattle.ptk_config_places.specs.declared.place.Place.TheVariants as place
 use Rattle.ptk_config_places.specs.declared.place.Refusal.{Refusal}
 use Rattle.ptk_config_places.specs.declared.walk.InputsBefore.{InputsBefore}
-use Rattle.ptk_config_places.specs.Placed.{Placed, ◌>>=◌, at, refusal_alone, number_at, each_numbered, key_name}
+use Rattle.ptk_config_places.specs.Placed.{Placed, ◌>>=◌, at, refusal_alone, number_within, each_numbered, key_name}
 use Rattle.ptk_config_places.specs.Walks.{bytes_walk, input_walk, inputs_walk, limits_walk, section_walk, sections_walk, window_walk, windows_walk, plan_walk, plans_walk}
 use Rattle.ptk_config_places.specs.Windows.{plan_place}
 use Rattle.ptk_config_places.specs.Refusals.{walked, doubled_place, table_walk, text_walk, refusal_of}
@@ -121,7 +121,7 @@ ended h (Err e) p here = record { read = here.read }
 of_input_of : (s : ℕ) (value : Option Data) → Reads (λ _. tt) (input_of value) (inputs_walk s value)
 of_input_of s value = ended arrivals_of (inputs_of value) _ (of_inputs s value)
 
-of_number : (here : TablePlace) (k : Key) (low high : ℕ) (t : Members) → Reads (λ a. a) (number (key_name k) low high t) (number_at here k low high t)
+of_number : (here : TablePlace) (k : Key) (low high : ℕ) (t : Members) → Reads (λ a. a) (number (key_name k) low high t) (number_within here k low high t)
 of_number here k low high t = of_at (place.Key here k) (number (key_name k) low high t)
 
 of_limits : (s : ℕ) (t : Members) → Reads (λ _. tt) (limits t) (limits_walk s t)

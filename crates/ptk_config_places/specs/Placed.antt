@@ -62,12 +62,12 @@ PlacedAside (Ok a) d = refusal_alone d ≡ Ok tt
 PlacedAside (Err r) d = r.fault ≢ fault.Memory → refusal_alone d ≡ Err r
 
 -- the number at a key of a table, within these bounds
-abbrev pub number_at : TablePlace → Key → ℕ → ℕ → Members → Placed ℕ
-number_at table key low high t = at (place.Key table key) (number (key_name key) low high t)
+abbrev pub number_within : TablePlace → Key → ℕ → ℕ → Members → Placed ℕ
+number_within table key low high t = at (place.Key table key) (number (key_name key) low high t)
 
 -- the array at a key of a table, of so many items
-abbrev pub array_at : TablePlace → Key → ℕ → ℕ → Members → Placed Items
-array_at table key low high t = at (place.Key table key) (array (key_name key) low high t)
+abbrev pub array_within : TablePlace → Key → ℕ → ℕ → Members → Placed Items
+array_within table key low high t = at (place.Key table key) (array (key_name key) low high t)
 
 -- each item in turn, by its number, read in view of what the one before left
 abbrev pub each_numbered : {S : Type 0} → (ℕ → S → Data → Placed S) → ℕ → S → Items → Placed S

@@ -15,7 +15,7 @@ use Rattle.ptk_config_places.specs.declared.place.TablePlace.TheVariants as tabl
 use Rattle.ptk_config_places.specs.declared.place.Place.{Place}
 use Rattle.ptk_config_places.specs.declared.place.Place.TheVariants as place
 use Rattle.ptk_config_places.specs.declared.place.Refusal.{Refusal}
-use Rattle.ptk_config_places.specs.Placed.{Placed, ◌>>=◌, at, number_at, array_at}
+use Rattle.ptk_config_places.specs.Placed.{Placed, ◌>>=◌, at, number_within, array_within}
 use Rattle.ptk_config_places.specs.Walks.{sections_walk, windows_walk, plans_walk}
 use Rattle.ptk_config_places.specs.Windows.{before_pair, plan_place}
 
@@ -34,10 +34,10 @@ plan_alone frame parts stages = at (plan_place (λ stage. stage.windows) frame p
 -- the first fault of a document's table, in the order of the checks (own)
 unfoldable pub table_walk : Members → Placed (Unit {0})
 table_walk t = do
-  frame ← number_at table.Top key.Frame 16 1000000 t
-  values ← array_at table.Top key.Partition 1 8 t
+  frame ← number_within table.Top key.Frame 16 1000000 t
+  values ← array_within table.Top key.Partition 1 8 t
   sections ← walked (sections_walk values) (sections_in values)
-  values ← array_at table.Top key.Window 0 64 t
+  values ← array_within table.Top key.Window 0 64 t
   windows ← walked (windows_walk 0 values) (windows_in sections values)
   later ← walked (plans_walk (get_member (codes "plan") t)) (stages_of sections (get_member (codes "plan") t))
   known ← at (place.Table table.Top) (only (codes "frame" ∷ codes "partition" ∷ codes "window" ∷ codes "plan" ∷ []) t (tt {0}))

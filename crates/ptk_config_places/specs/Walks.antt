@@ -9,7 +9,7 @@ use Rattle.ptk_config_places.specs.declared.place.TablePlace.{TablePlace}
 use Rattle.ptk_config_places.specs.declared.place.TablePlace.TheVariants.{Top, Section, Input, Plan, Window}
 use Rattle.ptk_config_places.specs.declared.place.Place.TheVariants.{Table, Key, Item}
 use Rattle.ptk_config_places.specs.declared.walk.InputsBefore.{InputsBefore}
-use Rattle.ptk_config_places.specs.Placed.{Placed, ◌>>=◌, at, refusal_alone, number_at, array_at, each_numbered}
+use Rattle.ptk_config_places.specs.Placed.{Placed, ◌>>=◌, at, refusal_alone, number_within, array_within, each_numbered}
 
 -- the bytes of an input (own)
 abbrev pub bytes_walk : TablePlace → Items → Placed (Unit {0})
@@ -19,8 +19,8 @@ bytes_walk table ds = each_numbered (λ n _ d. refusal_alone (at (Item table key
 abbrev pub input_walk : ℕ → ℕ → InputsBefore → Data → Placed InputsBefore
 input_walk section number before d = do
   t ← at (Table (Input section number)) (members d)
-  tick ← number_at (Input section number) key.At before.last LAST_TICK t
-  values ← array_at (Input section number) key.Bytes 0 (65536 - before.count) t
+  tick ← number_within (Input section number) key.At before.last LAST_TICK t
+  values ← array_within (Input section number) key.Bytes 0 (65536 - before.count) t
   bytes ← bytes_walk (Input section number) values
   at (Table (Input section number)) (only (codes "at" ∷ codes "bytes" ∷ []) t (record { last = tick; count = before.count + count_of values }))
 
@@ -35,15 +35,15 @@ inputs_walk section (Some d) = do
 abbrev pub limits_walk : ℕ → Members → Placed (Unit {0})
 limits_walk n t = do
   memory ← at (Key (Section n) key.Memory) (sixteens (codes "memory") 4096 1048576 t)
-  threads ← number_at (Section n) key.Threads 1 32 t
+  threads ← number_within (Section n) key.Threads 1 32 t
   stack ← at (Key (Section n) key.Stack) (stack memory threads t)
-  mutexes ← number_at (Section n) key.Mutexes 0 64 t
-  conditions ← number_at (Section n) key.Conditions 0 32 t
-  keys ← number_at (Section n) key.Keys 0 32 t
-  interval ← number_at (Section n) key.Interval 1 1000000 t
-  ring ← number_at (Section n) key.Ring 1 256 t
-  output ← number_at (Section n) key.Output 0 65536 t
-  trace ← number_at (Section n) key.Trace 0 1024 t
+  mutexes ← number_within (Section n) key.Mutexes 0 64 t
+  conditions ← number_within (Section n) key.Conditions 0 32 t
+  keys ← number_within (Section n) key.Keys 0 32 t
+  interval ← number_within (Section n) key.Interval 1 1000000 t
+  ring ← number_within (Section n) key.Ring 1 256 t
+  output ← number_within (Section n) key.Output 0 65536 t
+  trace ← number_within (Section n) key.Trace 0 1024 t
   Ok tt
 
 -- the section of this number (own)
@@ -64,8 +64,8 @@ sections_walk ds = each_numbered (λ n _. section_walk n) 1 tt ds
 abbrev pub window_walk : ℕ → ℕ → Data → Placed (Unit {0})
 window_walk stage n d = do
   t ← at (Table (Window stage n)) (members d)
-  start ← number_at (Window stage n) key.Start 0 999999 t
-  length ← number_at (Window stage n) key.Length 1 1000000 t
+  start ← number_within (Window stage n) key.Start 0 999999 t
+  length ← number_within (Window stage n) key.Length 1 1000000 t
   value ← at (Key (Window stage n) key.Partition) (required (codes "partition") t)
   name ← at (Key (Window stage n) key.Partition) (text value)
   at (Table (Window stage n)) (only (codes "start" ∷ codes "length" ∷ codes "partition" ∷ []) t tt)
@@ -78,8 +78,8 @@ windows_walk stage ds = each_numbered (λ n _. window_walk stage n) 1 tt ds
 abbrev pub plan_walk : ℕ → ℕ → Data → Placed ℕ
 plan_walk n last d = do
   t ← at (Table (Plan n)) (members d)
-  from ← number_at (Plan n) key.From (last + 1) 68719476736 t
-  values ← array_at (Plan n) key.Window 0 64 t
+  from ← number_within (Plan n) key.From (last + 1) 68719476736 t
+  values ← array_within (Plan n) key.Window 0 64 t
   windows ← windows_walk n values
   at (Table (Plan n)) (only (codes "from" ∷ codes "window" ∷ []) t from)
 

@@ -9,7 +9,7 @@ ghost use Rattle.ptk_config_places.specs.Placed.{at, PlacedAside};
 ghost use Rattle.ptk_config_places.specs.Refusals.{doubled_place, plan_alone, table_walk, text_walk, refusal_of};
 
 use crate::place::{Key, Place, Refusal, TablePlace};
-use crate::walk::{array_at, known_at, number_at, walk_plans, walk_sections, walk_windows};
+use crate::walk::{array_within, known_at, number_within, walk_plans, walk_sections, walk_windows};
 use crate::windows::{before_twin, plan_place};
 use ptk_config::parts::{
     any_doubled, read_later_stages, read_sections, read_windows, stages_given,
@@ -40,11 +40,11 @@ fn walk_table(alloc: Global, table: &Table) -> Result<(), Refusal>
     ensures { PlacedAside result (table_walk (table_view table.now)) }
 {
     let top = TablePlace::Top;
-    let frame = number_at(table, top, Key::Frame, 16, 1_000_000)?;
-    let values = array_at(table, top, Key::Partition, 1, 8)?;
+    let frame = number_within(table, top, Key::Frame, 16, 1_000_000)?;
+    let values = array_within(table, top, Key::Partition, 1, 8)?;
     walk_sections(values)?;
     let sections = read_sections(alloc, values)?;
-    let values = array_at(table, top, Key::Window, 0, 64)?;
+    let values = array_within(table, top, Key::Window, 0, 64)?;
     walk_windows(0, values)?;
     let windows = read_windows(alloc, values, &sections)?;
     walk_plans(table)?;

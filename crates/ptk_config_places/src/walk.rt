@@ -4,7 +4,7 @@ ghost use Rattle.std.specs.Prelude.{◌≡◌, ◌≤◌, IfOk, codes, map, vec_
 ghost use Rattle.toml.specs.Data.{get_member};
 ghost use Rattle.toml.specs.View.{view, table_view, array_view, items_view};
 ghost use Rattle.ptk_config.specs.Reading.{only};
-ghost use Rattle.ptk_config_places.specs.Placed.{at, placed_seen, refusal_alone, number_at, array_at, each_numbered};
+ghost use Rattle.ptk_config_places.specs.Placed.{at, placed_seen, refusal_alone, number_within, array_within, each_numbered};
 ghost use Rattle.ptk_config_places.specs.Walks.{bytes_walk, input_walk, inputs_walk, limits_walk, section_walk, sections_walk, window_walk, windows_walk, plan_walk, plans_walk};
 
 use crate::place::{Key, Place, Refusal, TablePlace};
@@ -28,14 +28,14 @@ pub(crate) fn at<T>(place: Place, read: Result<T, ConfigFault>) -> Result<T, Ref
 }
 
 /// The number at a key of a table, within these bounds.
-pub(crate) fn number_at(
+pub(crate) fn number_within(
     values: &Table,
     table: TablePlace,
     key: Key,
     low: u64,
     high: u64,
 ) -> Result<u64, Refusal>
-    ensures value { result ≡ number_at table key low high (table_view values.now) }
+    ensures value { result ≡ number_within table key low high (table_view values.now) }
     ensures range { IfOk result (λ n. (low ≤ n) × (n ≤ high)) }
 {
     match number(values, key.name(), low, high) {
@@ -48,14 +48,14 @@ pub(crate) fn number_at(
 }
 
 /// The array at a key of a table, of this many items.
-pub(crate) fn array_at(
+pub(crate) fn array_within(
     values: &Table,
     table: TablePlace,
     key: Key,
     low: usize,
     high: usize,
 ) -> Result<&Array, Refusal>
-    ensures value { placed_seen (λ v. array_view v.now) result ≡ array_at table key low high (table_view values.now) }
+    ensures value { placed_seen (λ v. array_view v.now) result ≡ array_within table key low high (table_view values.now) }
     ensures high { IfOk result (λ v. vec_len v.now ≤ high) }
 {
     match array(values, key.name(), low, high) {
@@ -116,8 +116,8 @@ fn walk_input(
 {
     let here = TablePlace::Input(section, number);
     let table = at(Place::Table(here), members(value))?;
-    let last = number_at(table, here, Key::At, before.last, LAST_TICK)?;
-    let values = array_at(table, here, Key::Bytes, 0, 65536 - before.count)?;
+    let last = number_within(table, here, Key::At, before.last, LAST_TICK)?;
+    let values = array_within(table, here, Key::Bytes, 0, 65536 - before.count)?;
     walk_bytes(here, values)?;
     known_at(table, here, &["at", "bytes"])?;
     Ok(InputsBefore {
@@ -160,16 +160,16 @@ fn walk_limits(section: usize, table: &Table) -> Result<(), Refusal>
     let here = TablePlace::Section(section);
     let size = sixteens(table, "memory", 4096, 1_048_576);
     let memory = at(Place::Key(here, Key::Memory), size)?;
-    let threads = number_at(table, here, Key::Threads, 1, 32)?;
+    let threads = number_within(table, here, Key::Threads, 1, 32)?;
     let size = stack(table, memory, threads);
     at(Place::Key(here, Key::Stack), size)?;
-    number_at(table, here, Key::Mutexes, 0, 64)?;
-    number_at(table, here, Key::Conditions, 0, 32)?;
-    number_at(table, here, Key::Keys, 0, 32)?;
-    number_at(table, here, Key::Interval, 1, 1_000_000)?;
-    number_at(table, here, Key::Ring, 1, 256)?;
-    number_at(table, here, Key::Output, 0, 65536)?;
-    number_at(table, here, Key::Trace, 0, 1024)?;
+    number_within(table, here, Key::Mutexes, 0, 64)?;
+    number_within(table, here, Key::Conditions, 0, 32)?;
+    number_within(table, here, Key::Keys, 0, 32)?;
+    number_within(table, here, Key::Interval, 1, 1_000_000)?;
+    number_within(table, here, Key::Ring, 1, 256)?;
+    number_within(table, here, Key::Output, 0, 65536)?;
+    number_within(table, here, Key::Trace, 0, 1024)?;
     Ok(())
 }
 
@@ -204,8 +204,8 @@ fn walk_window(stage: usize, number: usize, value: &Value) -> Result<(), Refusal
 {
     let here = TablePlace::Window(stage, number);
     let table = at(Place::Table(here), members(value))?;
-    number_at(table, here, Key::Start, 0, 999_999)?;
-    number_at(table, here, Key::Length, 1, 1_000_000)?;
+    number_within(table, here, Key::Start, 0, 999_999)?;
+    number_within(table, here, Key::Length, 1, 1_000_000)?;
     let name = at(
         Place::Key(here, Key::Partition),
         required(table, "partition"),
@@ -233,8 +233,8 @@ fn walk_plan(number: usize, last: u64, value: &Value) -> Result<u64, Refusal>
 {
     let here = TablePlace::Plan(number);
     let table = at(Place::Table(here), members(value))?;
-    let from = number_at(table, here, Key::From, last + 1, 68_719_476_736)?;
-    let values = array_at(table, here, Key::Window, 0, 64)?;
+    let from = number_within(table, here, Key::From, last + 1, 68_719_476_736)?;
+    let values = array_within(table, here, Key::Window, 0, 64)?;
     walk_windows(number, values)?;
     known_at(table, here, &["from", "window"])?;
     Ok(from)
