@@ -45,7 +45,7 @@ kind_wanted k = codes "an integer"
 
 -- the kind that a key of a table wants; the partition of a window is a name (own)
 abbrev pub kind_within : TablePlace → Key → List ℕ
-kind_within (at.Window stage n) key.Partition = codes "a text"
+kind_within (at.Window plan n) key.Partition = codes "a text"
 kind_within t k = kind_wanted k
 
 -- the kind that a place wants (own)
@@ -161,7 +161,7 @@ keys_of at.Top = codes "frame" ∷ codes "partition" ∷ codes "window" ∷ code
 keys_of (at.Section n) = section_keys
 keys_of (at.Input n i) = codes "at" ∷ codes "bytes" ∷ []
 keys_of (at.Plan n) = codes "from" ∷ codes "window" ∷ []
-keys_of (at.Window stage n) = codes "start" ∷ codes "length" ∷ codes "partition" ∷ []
+keys_of (at.Window plan n) = codes "start" ∷ codes "length" ∷ codes "partition" ∷ []
 
 -- the first key that is none of these (own)
 abbrev pub first_unknown : List (List ℕ) → Members → Option (List ℕ)
@@ -193,10 +193,10 @@ abbrev pub name_words : Members → ℕ → List ℕ
 name_words document n = words_of same_name (first_above (λ other. are_same (name_at document other) (name_at document n)) n 9)
 
 -- the first tick of a window, and the first after it (own)
-abbrev pub span_at : Members → ℕ → ℕ → ℕ × ℕ
-span_at document stage n = (
-  unwrap_or (number_at document (at.Window stage n) key.Start) 0,
-  unwrap_or (number_at document (at.Window stage n) key.Start) 0 + unwrap_or (number_at document (at.Window stage n) key.Length) 0,
+abbrev pub span_at : Members → Option ℕ → ℕ → ℕ × ℕ
+span_at document plan n = (
+  unwrap_or (number_at document (at.Window plan n) key.Start) 0,
+  unwrap_or (number_at document (at.Window plan n) key.Start) 0 + unwrap_or (number_at document (at.Window plan n) key.Length) 0,
 )
 
 -- a tick lies in both (own)
@@ -204,23 +204,23 @@ abbrev pub are_overlapping : ℕ × ℕ → ℕ × ℕ → Bool
 are_overlapping a b = nat_lt a.0 b.1 && nat_lt b.0 a.1
 
 -- the first later window with a common tick, of 64 (own)
-abbrev pub overlap_words : Members → ℕ → ℕ → List ℕ
-overlap_words document stage n =
-    words_of overlaps (first_above (λ other. are_overlapping (span_at document stage n) (span_at document stage other)) n 65)
+abbrev pub overlap_words : Members → Option ℕ → ℕ → List ℕ
+overlap_words document plan n =
+    words_of overlaps (first_above (λ other. are_overlapping (span_at document plan n) (span_at document plan other)) n 65)
 
 -- why a window is refused (own)
-abbrev pub window_fault_words : Members → ℕ → ℕ → WindowFault → List ℕ
-window_fault_words document stage n window.Short = short ((span_at document stage n).1 - (span_at document stage n).0)
-window_fault_words document stage n window.PastFrame = past_frame (span_at document stage n).1 (unwrap_or (number_at document at.Top key.Frame) 0)
-window_fault_words document stage n window.UnknownPartition = words_of (λ name. no_section (shown name)) (text_at document (at.Window stage n) key.Partition)
-window_fault_words document stage n window.Overlap = overlap_words document stage n
-window_fault_words document stage n window.Empty = codes "no window"
-window_fault_words document stage n window.Memory = refused
-window_fault_words document stage n window.OutOfOrder = refused
+abbrev pub window_fault_words : Members → Option ℕ → ℕ → WindowFault → List ℕ
+window_fault_words document plan n window.Short = short ((span_at document plan n).1 - (span_at document plan n).0)
+window_fault_words document plan n window.PastFrame = past_frame (span_at document plan n).1 (unwrap_or (number_at document at.Top key.Frame) 0)
+window_fault_words document plan n window.UnknownPartition = words_of (λ name. no_section (shown name)) (text_at document (at.Window plan n) key.Partition)
+window_fault_words document plan n window.Overlap = overlap_words document plan n
+window_fault_words document plan n window.Empty = codes "no window"
+window_fault_words document plan n window.Memory = refused
+window_fault_words document plan n window.OutOfOrder = refused
 
 -- why the windows at a place are refused (own)
 abbrev pub windows_fault_words : Members → Place → WindowFault → List ℕ
-windows_fault_words document (place.Table (at.Window stage n)) f = window_fault_words document stage n f
+windows_fault_words document (place.Table (at.Window plan n)) f = window_fault_words document plan n f
 windows_fault_words document (place.Key t k) f = codes "no window"
 windows_fault_words document p f = refused
 

@@ -1,5 +1,5 @@
 -- A place and a reason in words.
-use Rattle.std.specs.Prelude.{ℕ, ℤ, List, [], ◌∷◌, ◌++◌, ◌==◌, if◌then◌else◌, Option, Some, None, option_map, codes, decimal}
+use Rattle.std.specs.Prelude.{ℕ, ℤ, List, [], ◌∷◌, ◌++◌, Option, Some, None, option_map, codes, decimal}
 use Rattle.std.specs.Fmt.{signed_decimal}
 use Rattle.std.specs.Borrow.{Bor}
 use Rattle.std.specs.List.{concat}
@@ -41,8 +41,8 @@ table_words table.Top name = codes "the document"
 table_words (table.Section n) name = section_words n name
 table_words (table.Input n i) name = concat (section_words n name ∷ codes ", " ∷ input_words i ∷ [])
 table_words (table.Plan n) name = plan_words n
-table_words (table.Window stage n) name =
-    if stage == 0 then window_words n else concat (plan_words stage ∷ codes ", " ∷ window_words n ∷ [])
+table_words (table.Window None n) name = window_words n
+table_words (table.Window (Some plan) n) name = concat (plan_words plan ∷ codes ", " ∷ window_words n ∷ [])
 
 -- what stands before a key: its table, unless that is the document's own (own)
 abbrev pub within_words : TablePlace → Option (List ℕ) → List ℕ

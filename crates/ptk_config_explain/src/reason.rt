@@ -348,22 +348,22 @@ fn same_name(document: &Table, section: usize) -> Reason<'_>
 }
 
 /// The number at a key of a window, 0 where there is none.
-fn window_number(document: &Table, stage: usize, window: usize, key: Key) -> u64
-    ensures value { result ≡ unwrap_or (found.number_at (table_view document.now) (TablePlace.Window stage window) key) 0 }
+fn window_number(document: &Table, plan: Option<usize>, window: usize, key: Key) -> u64
+    ensures value { result ≡ unwrap_or (found.number_at (table_view document.now) (TablePlace.Window plan window) key) 0 }
     ensures small { result < 2 ^ 63 }
 {
-    match number_at(document, TablePlace::Window(stage, window), key) {
+    match number_at(document, TablePlace::Window(plan, window), key) {
         Some(number) => number,
         None => 0,
     }
 }
 
 /// The first tick of a window and the first after it, 0 and 0 where there is none.
-fn span(document: &Table, stage: usize, window: usize) -> (u64, u64)
-    ensures { result ≡ why.span_at (table_view document.now) stage window }
+fn span(document: &Table, plan: Option<usize>, window: usize) -> (u64, u64)
+    ensures { result ≡ why.span_at (table_view document.now) plan window }
 {
-    let start = window_number(document, stage, window, Key::Start);
-    let length = window_number(document, stage, window, Key::Length);
+    let start = window_number(document, plan, window, Key::Start);
+    let length = window_number(document, plan, window, Key::Length);
     (start, start + length)
 }
 
@@ -376,21 +376,21 @@ fn are_overlapping(one: (u64, u64), other: (u64, u64)) -> bool
 
 /// The first later window that has a tick of this one.
 #[tactic(auto, using(crate::proofs::Unknown::later_rules))]
-fn overlapping(document: &Table, stage: usize, window: usize) -> Option<usize>
-    ensures { result ≡ why.first_above (λ other. why.are_overlapping (why.span_at (table_view document.now) stage window) (why.span_at (table_view document.now) stage other)) window 65 }
+fn overlapping(document: &Table, plan: Option<usize>, window: usize) -> Option<usize>
+    ensures { result ≡ why.first_above (λ other. why.are_overlapping (why.span_at (table_view document.now) plan window) (why.span_at (table_view document.now) plan other)) window 65 }
 {
     if window >= BEHIND_WINDOWS {
         return None;
     }
-    let here = span(document, stage, window);
-    (window + 1..BEHIND_WINDOWS).find(|other| are_overlapping(here, span(document, stage, *other)))
+    let here = span(document, plan, window);
+    (window + 1..BEHIND_WINDOWS).find(|other| are_overlapping(here, span(document, plan, *other)))
 }
 
 /// The reason where a later window has a tick of this one.
-fn overlap(document: &Table, stage: usize, window: usize) -> Reason<'_>
-    ensures { words.reason_words result ≡ why.overlap_words (table_view document.now) stage window }
+fn overlap(document: &Table, plan: Option<usize>, window: usize) -> Reason<'_>
+    ensures { words.reason_words result ≡ why.overlap_words (table_view document.now) plan window }
 {
-    match overlapping(document, stage, window) {
+    match overlapping(document, plan, window) {
         Some(other) => Reason::Overlap(other),
         None => Reason::None,
     }
@@ -417,15 +417,20 @@ fn past_frame(document: &Table, end: u64) -> Reason<'_>
 }
 
 /// The reason where a window is refused.
-fn window_reason(document: &Table, stage: usize, window: usize, fault: WindowFault) -> Reason<'_>
-    ensures { words.reason_words result ≡ why.window_fault_words (table_view document.now) stage window fault }
+fn window_reason(
+    document: &Table,
+    plan: Option<usize>,
+    window: usize,
+    fault: WindowFault,
+) -> Reason<'_>
+    ensures { words.reason_words result ≡ why.window_fault_words (table_view document.now) plan window fault }
 {
-    let (start, end) = span(document, stage, window);
+    let (start, end) = span(document, plan, window);
     match fault {
         WindowFault::Short => Reason::Short(end.saturating_sub(start)),
         WindowFault::PastFrame => past_frame(document, end),
-        WindowFault::UnknownPartition => no_section(document, TablePlace::Window(stage, window)),
-        WindowFault::Overlap => overlap(document, stage, window),
+        WindowFault::UnknownPartition => no_section(document, TablePlace::Window(plan, window)),
+        WindowFault::Overlap => overlap(document, plan, window),
         WindowFault::Empty => Reason::NoWindow,
         WindowFault::Memory | WindowFault::OutOfOrder => Reason::None,
     }
@@ -436,8 +441,8 @@ fn windows_reason(document: &Table, place: Place, fault: WindowFault) -> Reason<
     ensures { words.reason_words result ≡ why.windows_fault_words (table_view document.now) place fault }
 {
     match place {
-        Place::Table(TablePlace::Window(stage, window)) => {
-            window_reason(document, stage, window, fault)
+        Place::Table(TablePlace::Window(plan, window)) => {
+            window_reason(document, plan, window, fault)
         }
         Place::Key(..) => Reason::NoWindow,
         _ => Reason::None,

@@ -48,8 +48,8 @@ impl fmt::Display for TableWords<'_> {
                 write!(f, "{words}, input {input}")
             }
             TablePlace::Plan(plan) => write!(f, "plan {plan}"),
-            TablePlace::Window(0, window) => write!(f, "window {window}"),
-            TablePlace::Window(plan, window) => write!(f, "plan {plan}, window {window}"),
+            TablePlace::Window(None, window) => write!(f, "window {window}"),
+            TablePlace::Window(Some(plan), window) => write!(f, "plan {plan}, window {window}"),
         }
     }
 }

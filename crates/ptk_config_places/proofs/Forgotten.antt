@@ -159,9 +159,9 @@ apart : {A B C : Type 0} (here : Place) (c : Checked A) (f : A → Checked B) (g
 apart here (Err e) f g p each = record { read = (here, refl) }
 apart here (Ok a) f g p each = bind (λ b. b) (λ _. tt) (f a) (at here (f a)) g p (of_at here (f a)) (λ b read. each b)
 
-of_window : (sections : List Section) (s n : ℕ) (d : Data) → Reads (λ _. tt) (window sections d) (window_walk s n d)
-of_window sections s n d =
-    let here = table.Window s n in
+of_window : (sections : List Section) (plan : Option ℕ) (n : ℕ) (d : Data) → Reads (λ _. tt) (window sections d) (window_walk plan n d)
+of_window sections plan n d =
+    let here = table.Window plan n in
     bind (λ a. a) _ _ _ _ _ (of_at (place.Table here) (members d)) (λ t is_table.
     bind (λ a. a) _ _ _ _ _ (of_number here key.Start 0 999999 t) (λ start is_start.
     bind (λ a. a) _ _ _ _ _ (of_number here key.Length 1 1000000 t) (λ length is_length.
@@ -171,9 +171,9 @@ of_window sections s n d =
     (λ name. of_only (place.Table here) (codes "start" ∷ codes "length" ∷ codes "partition" ∷ []) t (λ _. tt)
     (record { start = start; length = length; partition = number_of sections name }) tt refl))))
 
-of_windows : (sections : List Section) (s : ℕ) (ds : Items) → Reads (λ _. tt) (windows_in sections ds) (windows_walk s ds)
+of_windows : (sections : List Section) (plan : Option ℕ) (ds : Items) → Reads (λ _. tt) (windows_in sections ds) (windows_walk plan ds)
 unfolding windows_in windows_walk
-of_windows sections s ds = each (λ _. tt) (λ _. window sections) (λ n _. window_walk s n) (λ done n d. of_window sections s n d) [] 1 ds
+of_windows sections plan ds = each (λ _. tt) (λ _. window sections) (λ n _. window_walk plan n) (λ done n d. of_window sections plan n d) [] 1 ds
 
 of_stage : (sections : List Section) (done : List Stage) (n : ℕ) (d : Data) → Reads (λ stage. last_from (done ++ stage ∷ [])) (stage_in sections done d) (plan_walk n (last_from done) d)
 of_stage sections done n d =
@@ -181,7 +181,7 @@ of_stage sections done n d =
     bind (λ a. a) _ _ _ _ _ (of_at (place.Table here) (members d)) (λ t is_table.
     bind (λ a. a) _ _ _ _ _ (of_number here key.From (last_from done + 1) 68719476736 t) (λ from is_from.
     bind (λ a. a) _ _ _ _ _ (of_at (place.Key here key.Window) (array (codes "window") 0 64 t)) (λ values is_array.
-    bind (λ _. tt) _ _ _ _ _ (of_windows sections n values) (λ windows is_windows.
+    bind (λ _. tt) _ _ _ _ _ (of_windows sections (Some n) values) (λ windows is_windows.
     of_only (place.Table here) (codes "from" ∷ codes "window" ∷ []) t (λ stage. last_from (done ++ stage ∷ []))
     (record { from = from; windows = windows }) from (last_from-push done (record { from = from; windows = windows }))))))
 
@@ -205,7 +205,7 @@ of_configuration t =
     bind (λ a. a) _ _ _ _ _ (of_at (place.Key table.Top key.Partition) (array (codes "partition") 1 8 t)) (λ values is_array.
     bind (λ a. a) _ _ _ _ _ (of_walked (sections_in values) _ (of_sections values)) (λ sections is_sections.
     bind (λ a. a) _ _ _ _ _ (of_at (place.Key table.Top key.Window) (array (codes "window") 0 64 t)) (λ values is_values.
-    bind (λ a. a) _ _ _ _ _ (of_walked (windows_in sections values) _ (of_windows sections 0 values)) (λ windows is_windows.
+    bind (λ a. a) _ _ _ _ _ (of_walked (windows_in sections values) _ (of_windows sections None values)) (λ windows is_windows.
     bind (λ a. a) _ _ _ _ _ (of_walked (stages_of sections (get_member (codes "plan") t)) _ (of_stages sections (get_member (codes "plan") t))) (λ later is_later.
     let config : Configuration = record { sections = sections; plan = record { frame = frame; stages = record { from = 0; windows = windows } ∷ later } } in
     bind (λ _. tt {0}) _ _ _ _ _ (of_only (place.Table table.Top) (codes "frame" ∷ codes "partition" ∷ codes "window" ∷ codes "plan" ∷ []) t (λ _. tt {0}) config (tt {0}) refl) (λ known is_known.

@@ -8,7 +8,7 @@ use Rattle.ptk_words_windows.specs.declared.window.Window.{Window}
 use Rattle.ptk_words_windows.specs.WindowFaults.{window_fault}
 use Rattle.ptk_config_places.specs.declared.place.Place.{Place}
 use Rattle.ptk_config_places.specs.declared.place.Place.TheVariants.{Text}
-use Rattle.ptk_config_places.specs.Windows.{before_pair, windows_place, plan_place}
+use Rattle.ptk_config_places.specs.Windows.{before_pair, plan_of, windows_place, plan_place}
 
 -- no pair so far, and none with this one first
 pub before_pair-more : {A : Type 0} (r : A → A → Bool) (xs : List A) (i : ℕ) (x : A) (whole : ℕ)
@@ -57,9 +57,9 @@ plan_place-more f frame parts xs i x whole within is none so_far =
 
 pub plan_place-found : {A : Type 0} (f : A → List Window) (frame parts : ℕ) (xs : List A) (i : ℕ) (x : A) (whole : Place)
     → i < length xs → x ≡ get_or xs i x → is_some (window_fault frame parts (f x)) ≡ true
-    → plan_place f frame parts i (drop i xs) ≡ whole → whole ≡ windows_place frame parts i (f x)
+    → plan_place f frame parts i (drop i xs) ≡ whole → whole ≡ windows_place frame parts (plan_of i) (f x)
 plan_place-found f frame parts xs i x whole within is found so_far =
-    let step : plan_place f frame parts i (drop i xs) ≡ windows_place frame parts i (f x) = rw (drop-at xs i x within is, found) in
+    let step : plan_place f frame parts i (drop i xs) ≡ windows_place frame parts (plan_of i) (f x) = rw (drop-at xs i x within is, found) in
     sym so_far ∙ step
 
 pub plan_place-end : {A : Type 0} (f : A → List Window) (frame parts : ℕ) (xs : List A) (i : ℕ) (whole : Place)
@@ -73,7 +73,7 @@ pub plan_place-map : {A B : Type 0} (f : B → List Window) (g : A → B) (frame
     → plan_place f frame parts stage (map g xs) ≡ plan_place (λ x. f (g x)) frame parts stage xs
 plan_place-map f g frame parts stage [] = refl
 plan_place-map f g frame parts stage (x ∷ xs) =
-    ap (λ (p : Place). if is_some (window_fault frame parts (f (g x))) then windows_place frame parts stage (f (g x)) else p) (plan_place-map f g frame parts (stage + 1) xs)
+    ap (λ (p : Place). if is_some (window_fault frame parts (f (g x))) then windows_place frame parts (plan_of stage) (f (g x)) else p) (plan_place-map f g frame parts (stage + 1) xs)
 
 pub ruleset mapped = (plan_place-map)
 

@@ -26,17 +26,14 @@ item_at t k n = do
 abbrev pub table_in : Members → Key → ℕ → Option Members
 table_in t k n = item_at t k n >>= as_table
 
--- what stands where the table of a window should, of a plan, or of the top where the plan's number is 0 (own)
-abbrev pub window_data : Members → ℕ → ℕ → Option Data
-window_data document stage n = if stage == 0 then item_at document key.Window n else table_in document key.Plan stage >>= (λ t. item_at t key.Window n)
-
 -- what stands where a table should, None for the document's own (own)
 abbrev pub data_of : Members → TablePlace → Option Data
 data_of document table.Top = None
 data_of document (table.Section n) = item_at document key.Partition n
 data_of document (table.Input n i) = table_in document key.Partition n >>= (λ t. item_at t key.Input i)
 data_of document (table.Plan n) = item_at document key.Plan n
-data_of document (table.Window stage n) = window_data document stage n
+data_of document (table.Window None n) = item_at document key.Window n
+data_of document (table.Window (Some plan) n) = table_in document key.Plan plan >>= (λ t. item_at t key.Window n)
 
 -- the table of a place (own)
 abbrev pub table_of : Members → TablePlace → Option Members

@@ -38,7 +38,7 @@ table_walk t = do
   values ← array_within table.Top key.Partition 1 8 t
   sections ← walked (sections_walk values) (sections_in values)
   values ← array_within table.Top key.Window 0 64 t
-  windows ← walked (windows_walk 0 values) (windows_in sections values)
+  windows ← walked (windows_walk None values) (windows_in sections values)
   later ← walked (plans_walk (get_member (codes "plan") t)) (stages_of sections (get_member (codes "plan") t))
   known ← at (place.Table table.Top) (only (codes "frame" ∷ codes "partition" ∷ codes "window" ∷ codes "plan" ∷ []) t (tt {0}))
   distinct ← at (doubled_place sections) (tested (not (any_doubled sections)) fault.DoubledName (tt {0}))

@@ -60,19 +60,19 @@ section_walk n d = do
 unfoldable pub sections_walk : Items → Placed (Unit {0})
 sections_walk ds = each_numbered (λ n _. section_walk n) 1 tt ds
 
--- the window of this number, of a plan, or of the top where the plan's number is 0 (own)
-abbrev pub window_walk : ℕ → ℕ → Data → Placed (Unit {0})
-window_walk stage n d = do
-  t ← at (Table (Window stage n)) (members d)
-  start ← number_within (Window stage n) key.Start 0 999999 t
-  length ← number_within (Window stage n) key.Length 1 1000000 t
-  value ← at (Key (Window stage n) key.Partition) (required (codes "partition") t)
-  name ← at (Key (Window stage n) key.Partition) (text value)
-  at (Table (Window stage n)) (only (codes "start" ∷ codes "length" ∷ codes "partition" ∷ []) t tt)
+-- the window of this number of a plan, or of the top (own)
+abbrev pub window_walk : Option ℕ → ℕ → Data → Placed (Unit {0})
+window_walk plan n d = do
+  t ← at (Table (Window plan n)) (members d)
+  start ← number_within (Window plan n) key.Start 0 999999 t
+  length ← number_within (Window plan n) key.Length 1 1000000 t
+  value ← at (Key (Window plan n) key.Partition) (required (codes "partition") t)
+  name ← at (Key (Window plan n) key.Partition) (text value)
+  at (Table (Window plan n)) (only (codes "start" ∷ codes "length" ∷ codes "partition" ∷ []) t tt)
 
 -- the windows of a plan, or of the top (own)
-unfoldable pub windows_walk : ℕ → Items → Placed (Unit {0})
-windows_walk stage ds = each_numbered (λ n _. window_walk stage n) 1 tt ds
+unfoldable pub windows_walk : Option ℕ → Items → Placed (Unit {0})
+windows_walk plan ds = each_numbered (λ n _. window_walk plan n) 1 tt ds
 
 -- the plan of this number, after one from this frame on; its own frame (own)
 abbrev pub plan_walk : ℕ → ℕ → Data → Placed ℕ
@@ -80,7 +80,7 @@ plan_walk n last d = do
   t ← at (Table (Plan n)) (members d)
   from ← number_within (Plan n) key.From (last + 1) 68719476736 t
   values ← array_within (Plan n) key.Window 0 64 t
-  windows ← windows_walk n values
+  windows ← windows_walk (Some n) values
   at (Table (Plan n)) (only (codes "from" ∷ codes "window" ∷ []) t from)
 
 -- the plans, none where the key is missing (own)

@@ -45,7 +45,7 @@ fn walk_table(alloc: Global, table: &Table) -> Result<(), Refusal>
     walk_sections(values)?;
     let sections = read_sections(alloc, values)?;
     let values = array_within(table, top, Key::Window, 0, 64)?;
-    walk_windows(0, values)?;
+    walk_windows(None, values)?;
     let windows = read_windows(alloc, values, &sections)?;
     walk_plans(table)?;
     let later = read_later_stages(alloc, table, &sections)?;

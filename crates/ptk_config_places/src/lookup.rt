@@ -40,8 +40,8 @@ fn value_of(document: &Table, place: TablePlace) -> Option<&Value>
             )
         }
         TablePlace::Plan(plan) => item_at(document, Key::Plan, plan),
-        TablePlace::Window(0, window) => item_at(document, Key::Window, window),
-        TablePlace::Window(plan, window) => {
+        TablePlace::Window(None, window) => item_at(document, Key::Window, window),
+        TablePlace::Window(Some(plan), window) => {
             item_at(table_in(document, Key::Plan, plan)?, Key::Window, window)
         }
     }

@@ -100,8 +100,8 @@ pub enum TablePlace {
     Input(usize, usize),
     /// That of a plan.
     Plan(usize),
-    /// That of a window, by its plan's number, 0 for the windows at the top, and its own.
-    Window(usize, usize),
+    /// That of a window, by its plan's number, None for the windows at the top, and its own.
+    Window(Option<usize>, usize),
 }
 
 /// Where in the configuration a fault is. Numbers count from 1.

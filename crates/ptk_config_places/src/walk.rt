@@ -198,11 +198,11 @@ pub(crate) fn walk_sections(values: &[Value]) -> Result<(), Refusal>
     Ok(())
 }
 
-/// A window of a plan, or of the top where the plan's number is 0.
-fn walk_window(stage: usize, number: usize, value: &Value) -> Result<(), Refusal>
-    ensures { result ≡ window_walk stage number (view value.now) }
+/// A window of a plan, or of the top where that is None.
+fn walk_window(plan: Option<usize>, number: usize, value: &Value) -> Result<(), Refusal>
+    ensures { result ≡ window_walk plan number (view value.now) }
 {
-    let here = TablePlace::Window(stage, number);
+    let here = TablePlace::Window(plan, number);
     let table = at(Place::Table(here), members(value))?;
     number_within(table, here, Key::Start, 0, 999_999)?;
     number_within(table, here, Key::Length, 1, 1_000_000)?;
@@ -214,13 +214,13 @@ fn walk_window(stage: usize, number: usize, value: &Value) -> Result<(), Refusal
     known_at(table, here, &["start", "length", "partition"])
 }
 
-/// The windows of a plan, or of the top where the plan's number is 0.
+/// The windows of a plan, or of the top where that is None.
 #[tactic(auto, using(crate::proofs::Numbered::numbered), unfolding(crate::specs::Walks::windows_walk))]
-pub(crate) fn walk_windows(stage: usize, values: &[Value]) -> Result<(), Refusal>
-    ensures { result ≡ windows_walk stage (items_view values.now) }
+pub(crate) fn walk_windows(plan: Option<usize>, values: &[Value]) -> Result<(), Refusal>
+    ensures { result ≡ windows_walk plan (items_view values.now) }
 {
     for (index, value) in values.iter().enumerate() {
-        walk_window(stage, index + 1, value)?;
+        walk_window(plan, index + 1, value)?;
     }
     Ok(())
 }
@@ -235,7 +235,7 @@ fn walk_plan(number: usize, last: u64, value: &Value) -> Result<u64, Refusal>
     let table = at(Place::Table(here), members(value))?;
     let from = number_within(table, here, Key::From, last + 1, 68_719_476_736)?;
     let values = array_within(table, here, Key::Window, 0, 64)?;
-    walk_windows(number, values)?;
+    walk_windows(Some(number), values)?;
     known_at(table, here, &["from", "window"])?;
     Ok(from)
 }

@@ -3,7 +3,7 @@
 ghost use Rattle.std.specs.Prelude.{◌≡◌, ◌≤◌, ◌<◌, IfSome, length, position, is_some};
 ghost use Rattle.std.specs.Str.{bytes_eq};
 ghost use Rattle.ptk_words_windows.specs.WindowFaults.{fault_of, are_overlapping};
-ghost use Rattle.ptk_config_places.specs.Windows.{before_pair, before_fault, owner, windows_place, plan_place};
+ghost use Rattle.ptk_config_places.specs.Windows.{before_pair, before_fault, owner, plan_of, windows_place, plan_place};
 
 use crate::place::{Key, Place, TablePlace};
 use ptk_config::Section;
@@ -59,26 +59,32 @@ fn before_fault(frame: u32, parts: usize, windows: &[Window]) -> usize
     }
 }
 
-/// The table that has the windows of this stage.
-fn owner(stage: usize) -> TablePlace
-    ensures { result ≡ owner stage }
+/// The plan that is the stage of this number, from 0: None for the first stage, whose windows are at the top.
+fn plan_of(stage: usize) -> Option<usize>
+    ensures { result ≡ plan_of stage }
 {
-    if stage == 0 {
-        TablePlace::Top
-    } else {
-        TablePlace::Plan(stage)
+    if stage == 0 { None } else { Some(stage) }
+}
+
+/// The table that has the windows of this plan, or of the top.
+fn owner(plan: Option<usize>) -> TablePlace
+    ensures { result ≡ owner plan }
+{
+    match plan {
+        None => TablePlace::Top,
+        Some(plan) => TablePlace::Plan(plan),
     }
 }
 
-/// The place of the first fault of a stage's windows.
-fn windows_place(frame: u32, parts: usize, stage: usize, windows: &[Window]) -> Place
-    ensures { result ≡ windows_place frame parts stage windows.now }
+/// The place of the first fault of the windows of a plan, or of the top.
+fn windows_place(frame: u32, parts: usize, plan: Option<usize>, windows: &[Window]) -> Place
+    ensures { result ≡ windows_place frame parts plan windows.now }
 {
     if windows.is_empty() {
-        return Place::Key(owner(stage), Key::Window);
+        return Place::Key(owner(plan), Key::Window);
     }
     let number = before_fault(frame, parts, windows) + 1;
-    Place::Table(TablePlace::Window(stage, number))
+    Place::Table(TablePlace::Window(plan, number))
 }
 
 /// The place of the first fault of the stages' windows.
@@ -88,7 +94,7 @@ pub(crate) fn plan_place(frame: u32, parts: usize, stages: &[(u64, &[Window])]) 
 {
     for (index, stage) in stages.iter().enumerate() {
         if window_fault(frame, parts, stage.1).is_some() {
-            return windows_place(frame, parts, index, stage.1);
+            return windows_place(frame, parts, plan_of(index), stage.1);
         }
     }
     Place::Text

@@ -6,5 +6,5 @@ use Rattle.ptk_config_places.proofs.walk.walk_windows.Given as goal
 
 abbrev pub invariant-loop-index : goal.invariant-loop-index
 invariant-loop-index l =
-    each_numbered (λ n _. window_walk l.stage n) (l.index + 1) tt (items_view (drop l.index l.values))
-    ≡ each_numbered (λ n _. window_walk l.stage n) 1 tt (items_view l.values)
+    each_numbered (λ n _. window_walk l.plan n) (l.index + 1) tt (items_view (drop l.index l.values))
+    ≡ each_numbered (λ n _. window_walk l.plan n) 1 tt (items_view l.values)
