@@ -48,14 +48,19 @@ outcome_in files section = outcome_named files section.image (room_below_stacks 
 
 -- the file is not there (own)
 abbrev pub is_missing : Outcome → Bool
+is_missing (Unnamed free) = false
 is_missing Missing = true
-is_missing outcome = false
+is_missing (Refused fault) = false
+is_missing (Unfit filled room) = false
+is_missing (Accepted text data_bytes bss free) = false
 
 -- the file is there, and is no image or one that does not fit (own)
 abbrev pub is_refused : Outcome → Bool
+is_refused (Unnamed free) = false
+is_refused Missing = false
 is_refused (Refused fault) = true
 is_refused (Unfit filled room) = true
-is_refused outcome = false
+is_refused (Accepted text data_bytes bss free) = false
 
 -- the place, from 0, of the first image whose file is not there, else of the first that is refused (own)
 abbrev pub first_refused : List Outcome → Option ℕ
