@@ -1,5 +1,5 @@
 -- What stands at a place of a document.
-use Rattle.std.specs.Prelude.{ℕ, ◌-◌, ◌==◌, ℤ, pos, negsuc, List, if◌then◌else◌, Option, Some, None}
+use Rattle.std.specs.Prelude.{ℕ, ◌-◌, ◌==◌, ℤ, pos, negsuc, List, if◌then◌else◌, Option, Some, None, option_and_then}
 use Rattle.toml.specs.Data.{Data, at, as_integer, as_str, as_array, as_table, Members, get_member}
 use Rattle.ptk_config.specs.Reading.{count_of}
 use Rattle.ptk_config_places.specs.declared.place.Key.{Key}
@@ -11,10 +11,9 @@ use Rattle.ptk_config_places.specs.declared.place.Place.TheVariants as place
 use Rattle.ptk_config_places.specs.Placed.{key_name}
 
 infixl 10 ◌>>=◌
--- the next look-up comes only where the one before found something
+-- std's `and_then` in the order of reading, for look-ups one after the other
 abbrev pub ◌>>=◌ : {A B : Type 0} → Option A → (A → Option B) → Option B
-Some x >>= f = f x
-None >>= f = None
+found >>= next = option_and_then next found
 
 -- the item of this number, from 1, of the array at a key (own)
 abbrev pub item_at : Members → Key → ℕ → Option Data
