@@ -1,7 +1,7 @@
 -- Comments have no LF.
 use Rattle.std.proofs.Common.{◌≡◌, ℕ, ◌-◌, ◌/◌, ◌%◌, Bool, true, false, ◌&&◌, List, [], ◌∷◌, ◌++◌, length, Option, Some, None, refl, arith, suc, zero, ◌==◌, replicate}
 use Rattle.std.specs.Prelude.{codes}
-use Rattle.std.specs.List.{list_all}
+use Rattle.std.specs.List.{concat, list_all}
 use Rattle.std.specs.Fmt.{digits, digits_onto, digit_glyph}
 use Rattle.std.proofs.lemmas.Bool.Decides.{nat_tests}
 use Rattle.ptk_rv32i_code.specs.Coding.{decoded}
@@ -42,13 +42,21 @@ both-within (x ∷ xs) ys h k = by_test (is_within_line x) refl (both-within xs 
 pub hex-within : (n : ℕ) → list_all is_within_line (hex_word n) ≡ true
 hex-within n = zeros_within (8 - length (digits 16 false n)) (digits 16 false n) (digits-within n)
 
+-- each of these pieces has no LF
+abbrev pub AreWithin : List (List ℕ) → Type 0
+AreWithin [] = Unit {0}
+AreWithin (x ∷ xs) = (list_all is_within_line x ≡ true) × AreWithin xs
+
+pub each-within : (xs : List (List ℕ)) → AreWithin xs → list_all is_within_line (concat xs) ≡ true
+each-within [] h = refl
+each-within (x ∷ xs) h = both-within x (concat xs) h.0 (each-within xs h.1)
+
 target_within : (names : Names) → AreWithinLine names → (target : Option ℕ) → list_all is_within_line (target_text names target) ≡ true
 target_within names within None = refl
-target_within names within (Some target) = both-within (codes " -> ") (hex_word target ++ names.there target) refl (both-within (hex_word target) (names.there target) (hex-within target) (within.there target))
+target_within names within (Some target) = each-within (codes " -> " ∷ hex_word target ∷ names.there target ∷ []) (refl, (hex-within target, (within.there target, tt)))
 
 pub word-comment : (names : Names) → AreWithinLine names → (at word : ℕ) → list_all is_within_line (word_comment names at word) ≡ true
 word-comment names within at word =
     let target : List ℕ = target_text names (target_of at (decoded word)) in
-    both-within (hex_word at) (names.here at ++ (codes " " ++ (hex_word word ++ target))) (hex-within at)
-    (both-within (names.here at) (codes " " ++ (hex_word word ++ target)) (within.here at)
-    (both-within (hex_word word) target (hex-within word) (target_within names within (target_of at (decoded word)))))
+    each-within (hex_word at ∷ names.here at ∷ codes " " ∷ hex_word word ∷ target ∷ [])
+    (hex-within at, (within.here at, (refl, (hex-within word, (target_within names within (target_of at (decoded word)), tt)))))

@@ -1,12 +1,12 @@
 -- Names of addresses end no line.
-use Rattle.std.proofs.Common.{◌≡◌, ℕ, Bool, true, false, List, [], ◌∷◌, ◌++◌, Option, Some, None, refl, arith, ◌==◌}
+use Rattle.std.proofs.Common.{◌≡◌, ℕ, Bool, true, false, List, [], ◌∷◌, Option, Some, None, refl, arith, ◌==◌}
 use Rattle.std.specs.Prelude.{codes, filter}
 use Rattle.std.specs.List.{list_all}
 use Rattle.std.proofs.lemmas.Bool.Decides.{nat_tests}
 use Rattle.std.specs.Fmt.{digits}
 use Rattle.ptk_symbols.specs.Tables.{is_visible, exact, nearest, distance_text, bracketed}
 use Rattle.ptk_disasm.specs.Disassembly.{AreWithinLine, names_of, is_within_line}
-use Rattle.ptk_disasm.proofs.Hexadecimal.{both-within, digits-within}
+use Rattle.ptk_disasm.proofs.Hexadecimal.{both-within, digits-within, each-within}
 
 visible_within : (c : ℕ) → is_visible c ≡ true → is_within_line c ≡ true
 visible_within c h = grind (arith, nat_tests)
@@ -29,9 +29,7 @@ distance_within d = by_test (d == 0) refl
 bracketed_within : (o : Option (List ℕ × ℕ)) → list_all is_within_line (bracketed o) ≡ true
 bracketed_within None = refl
 bracketed_within (Some n) =
-    both-within (codes " <") (filter is_visible n.0 ++ (distance_text n.1 ++ codes ">")) refl
-    (both-within (filter is_visible n.0) (distance_text n.1 ++ codes ">") (filter_within n.0)
-    (both-within (distance_text n.1) (codes ">") (distance_within n.1) refl))
+    each-within (codes " <" ∷ filter is_visible n.0 ∷ distance_text n.1 ∷ codes ">" ∷ []) (refl, (filter_within n.0, (distance_within n.1, (refl, tt))))
 
 pub names-within : (symbols : List (ℕ × List ℕ)) → AreWithinLine (names_of symbols)
 names-within symbols = record {

@@ -2,7 +2,7 @@
 use Rattle.std.specs.Prelude.{ℕ, ◌+◌, ◌-◌, ◌≤◌, ◌≡◌, Bool, true, false, not, List, [], ◌∷◌, ◌++◌, length, replicate, flat_map, ◌==◌, if◌then◌else◌, Option, Some, None, pos, Ok, codes, nat_lt}
 use Rattle.std.specs.Int.{w32, from_le_bytes}
 use Rattle.std.specs.Fmt.{digits}
-use Rattle.std.specs.List.{list_all}
+use Rattle.std.specs.List.{concat, list_all}
 use Rattle.ptk_symbols.specs.Tables.{name_text, place_text}
 use Rattle.ptk_words.specs.Words.{word_of, sign_extension}
 use Rattle.ptk_words.specs.Image.{ImageParts}
@@ -44,22 +44,23 @@ pub record Names : Type 0 where
   pub here : ℕ → List ℕ
   pub there : ℕ → List ℕ
 
--- nothing (own)
+-- no names: nothing stands behind an address (own)
 abbrev pub no_names : Names
 no_names = record { here = λ a. []; there = λ a. [] }
 
--- by symbols: the name of the symbol that begins at a line, and the symbol that is nearest to a target (own)
+-- the names that symbols give: behind the address of a line the symbol that begins there, behind a target the symbol that is nearest to it (own)
 abbrev pub names_of : List (ℕ × List ℕ) → Names
 names_of symbols = record { here = name_text symbols; there = place_text symbols }
 
 -- an address behind an arrow, where there is one (own)
 abbrev pub target_text : Names → Option ℕ → List ℕ
 target_text names None = []
-target_text names (Some target) = codes " -> " ++ (hex_word target ++ names.there target)
+target_text names (Some target) = concat (codes " -> " ∷ hex_word target ∷ names.there target ∷ [])
 
 -- the address of a word, its value, and the target of a branch or a jump (own)
 abbrev pub word_comment : Names → ℕ → ℕ → List ℕ
-word_comment names at word = hex_word at ++ (names.here at ++ (codes " " ++ (hex_word word ++ target_text names (target_of at (decoded word)))))
+word_comment names at word =
+    concat (hex_word at ∷ names.here at ∷ codes " " ∷ hex_word word ∷ target_text names (target_of at (decoded word)) ∷ [])
 
 -- a word of the text with its comment (own)
 abbrev pub word_line : Names → ℕ → ℕ → Line
@@ -68,7 +69,7 @@ word_line names at word = Stated (statement_for word) (word_comment names at wor
 -- the words of the text from an address on, with the label of the entry before its word or at the end (own)
 abbrev pub text_lines : Names → ℕ → ℕ → List ℕ → List Line
 text_lines names entry at [] = entry_line entry at
-text_lines names entry at (word ∷ words) = entry_line entry at ++ (word_line names at word ∷ text_lines names entry (at + 4) words)
+text_lines names entry at (word ∷ words) = entry_line entry at ++ word_line names at word ∷ text_lines names entry (at + 4) words
 
 -- ---- the data and the zeros behind it
 
@@ -88,14 +89,22 @@ zero_lines at n = if n == 0 then [] else addressed at (given form.Space [] (pos 
 
 -- ---- the image
 
+-- the section of the data, whose bytes begin at an address (own)
+abbrev pub data_section : ℕ → List ℕ → List Line
+data_section at bytes = addressed at (bare (form.Within section.Data) []) ∷ data_lines at bytes
+
+-- the section of the zeros, which begin at an address (own)
+abbrev pub bss_section : ℕ → ℕ → List Line
+bss_section at n = addressed at (bare (form.Within section.Bss) []) ∷ zero_lines at n
+
+-- the sections behind the text (own)
+abbrev pub sections_behind : ImageParts → List Line
+sections_behind image =
+    data_section (length image.text) image.«data» ++ bss_section (length image.text + length image.«data») image.bss
+
 -- the lines of an image (own)
 abbrev pub lines_for : Names → ImageParts → List Line
-lines_for names image =
-    text_lines names image.entry 0 (words_in image.text)
-    ++ (addressed (length image.text) (bare (form.Within section.Data) [])
-    ∷ data_lines (length image.text) image.«data»
-    ++ (addressed (length image.text + length image.«data») (bare (form.Within section.Bss) [])
-    ∷ zero_lines (length image.text + length image.«data») image.bss))
+lines_for names image = text_lines names image.entry 0 (words_in image.text) ++ sections_behind image
 
 -- lines as a text, each with its LF (own)
 abbrev pub text_for : List Line → List ℕ

@@ -127,10 +127,14 @@ pub data Line : Type 0 where
   Entry : Line
   Stated : Statement → List ℕ → Line
 
+-- a comment behind a statement (own)
+abbrev pub comment_text : List ℕ → List ℕ
+comment_text comment = codes " # " ++ comment
+
 -- a line without its LF (own)
 abbrev pub line_text : Line → List ℕ
 line_text Entry = codes "_start:"
-line_text (Stated s comment) = statement_text s ++ (codes " # " ++ comment)
+line_text (Stated s comment) = statement_text s ++ comment_text comment
 
 -- a number of at most 64 bits is the first piece before what begins no run, and this piece is a token of its value
 abbrev pub NumberReadsBack : Form → ℤ → Type 0

@@ -10,13 +10,13 @@ use ptk_rv32i_code::{Immediate, ImmediateOp, Instr, JumpOffset, Register, decode
 use std::alloc::AllocError;
 
 /// The bits of an immediate (RISC-V 2.3).
-const IMMEDIATE_BITS: u32 = 12;
+pub const IMMEDIATE_BITS: u32 = 12;
 
 /// The bits of a branch's offset, with the lowest, which is 0 (RISC-V 2.3).
-pub(crate) const BRANCH_BITS: u32 = 13;
+pub const BRANCH_BITS: u32 = 13;
 
 /// The bits of a jump's offset, with the lowest, which is 0 (RISC-V 2.3).
-pub(crate) const JUMP_BITS: u32 = 21;
+pub const JUMP_BITS: u32 = 21;
 
 /// The word of `fence` (RISC-V 2.7).
 const FENCE: u32 = 0x0ff0000f;

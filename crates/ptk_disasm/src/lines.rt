@@ -1,8 +1,9 @@
 //! The lines of the sections.
 
-ghost use Rattle.std.specs.Prelude.{◌≡◌, ◌++◌, ◌<◌, ◌+◌, ◌%◌, ◌^◌, ◌∷◌, [], OnOk, string_bytes, length, codes, pos};
+ghost use Rattle.std.specs.Prelude.{◌≡◌, ◌++◌, ◌<◌, ◌+◌, ◌%◌, ◌^◌, ◌∷◌, [], OnOk, string_bytes, length, pos};
 ghost use Rattle.ptk_asm.specs.Emitting.{words_in};
 ghost use Rattle.ptk_disasm.specs.Disassembly as is;
+ghost use Rattle.ptk_disasm.specs.Spelling.{comment_text};
 ghost use Rattle.ptk_disasm.specs.WordStatements.{given};
 ghost use Rattle.ptk_disasm.specs.Writing.{stated};
 
@@ -33,7 +34,7 @@ fn push_hexadecimal(out: &mut String, word: u32) -> Result<(), AllocError>
 
 /// Appends the beginning of a comment, with the address of its line.
 fn push_comment(out: &mut String, at: u32) -> Result<(), AllocError>
-    ensures { OnOk result (string_bytes out.new ≡ string_bytes out.old ++ (codes " # " ++ is.hex_word at)) }
+    ensures { OnOk result (string_bytes out.new ≡ string_bytes out.old ++ comment_text (is.hex_word at)) }
 {
     out.push_str(" # ")?;
     push_hexadecimal(out, at)
@@ -65,7 +66,7 @@ fn push_word_comment(
     at: u32,
     word: u32,
 ) -> Result<(), AllocError>
-    ensures { OnOk result (string_bytes out.new ≡ string_bytes out.old ++ (codes " # " ++ is.word_comment (is.names_of symbols.now) at word)) }
+    ensures { OnOk result (string_bytes out.new ≡ string_bytes out.old ++ comment_text (is.word_comment (is.names_of symbols.now) at word)) }
 {
     push_comment(out, at)?;
     symbols.push_name(out, at)?;

@@ -8,8 +8,9 @@ ghost use Rattle.ptk_disasm.specs.Disassembly as is;
 use crate::instructions::{BRANCH_BITS, JUMP_BITS};
 use ptk_rv32i_code::{Instr, decode};
 
-/// The address at a distance from another, given as the bits of a field of this width in two's complement (RISC-V 2.5).
-fn address_at(at: u32, width: u32, bits: u32) -> u32
+/// The address at a distance from another, given as the bits of a field of this width in two's complement (RISC-V 2.3,
+/// 2.5).
+pub fn address_at(at: u32, width: u32, bits: u32) -> u32
     requires some { 0 < width }
     requires narrow { width ≤ 21 }
     requires inside { bits < 2 ^ width }
