@@ -17,14 +17,15 @@ use Rattle.ptk_words_model.specs.Text.{has_runnable}
 use Rattle.ptk_main_runs.specs.Told.{activity_of, status_in}
 use Rattle.ptk_main_runs.specs.World.{World, alone_in, no_section, section_at, state_of, world_at}
 use Rattle.ptk_main_runs.proofs.Keeping.{state_alone}
-use Rattle.ptk_main_answers.specs.Images.{bytes_refusal, first_refused, image_refusal, is_refused, parts_refusal, refusal_in}
+use Rattle.ptk_main_runs.specs.Refused.{refusal_of, refusal_of_parts}
+use Rattle.ptk_main_answers.specs.Images.{first_refused, image_refusal, is_refused, refusal_in}
 
 active_is_no_refusal : (busy : Bool) → refusal_in (activity_of busy) ≡ None
 active_is_no_refusal true = refl
 active_is_no_refusal false = refl
 
 refusal-parts : (limits : Limits) (image : Result ImageParts ImageFault) (input : List Arrival)
-    → refusal_in (status_in (with_image limits image (empty_part limits input))) ≡ parts_refusal limits image
+    → refusal_in (status_in (with_image limits image (empty_part limits input))) ≡ refusal_of_parts limits image
 refusal-parts limits (Err fault) input = refl
 refusal-parts limits (Ok image) input =
     let empty : Part = empty_part limits input in
@@ -35,7 +36,7 @@ refusal-parts limits (Ok image) input =
       | false ↦ refl
     ]
 
-refusal-bytes : (limits : Limits) (image : Option (List ℕ)) (input : List Arrival) → refusal_in (status_in (start_part limits image input)) ≡ bytes_refusal limits image
+refusal-bytes : (limits : Limits) (image : Option (List ℕ)) (input : List Arrival) → refusal_in (status_in (start_part limits image input)) ≡ refusal_of limits image
 refusal-bytes limits None input = refl
 refusal-bytes limits (Some bytes) input = refusal-parts limits (image_of bytes) input
 
