@@ -1,5 +1,6 @@
 -- What stands behind a line of a decoded trace, and which lines are shown.
-use Rattle.std.specs.Prelude.{ℕ, Bool, true, not, ◌&&◌, ◌||◌, List, ◌++◌, Option, Some, None, codes, ◌==◌, nat_le, nat_lt, if◌then◌else◌}
+use Rattle.std.specs.Prelude.{ℕ, Bool, true, not, ◌&&◌, ◌||◌, List, [], ◌∷◌, ◌++◌, Option, Some, None, codes, ◌==◌, nat_le, nat_lt, if◌then◌else◌}
+use Rattle.std.specs.List.{concat}
 use Rattle.ptk_words.specs.declared.TheConstants.{ECALL, RETURN_GATE}
 use Rattle.ptk_words.specs.declared.sections.Entry.{Entry}
 use Rattle.ptk_rv32i_code.specs.Coding.{decoded}
@@ -27,4 +28,4 @@ step_text symbols pc word =
 
 -- the symbol that is nearest to the pc, and the step (own)
 abbrev pub decoded_text : List (ℕ × List ℕ) → ℕ → ℕ → List ℕ
-decoded_text symbols pc word = place_text symbols pc ++ (codes " " ++ step_text symbols pc word)
+decoded_text symbols pc word = concat (place_text symbols pc ∷ codes " " ∷ step_text symbols pc word ∷ [])
