@@ -15,16 +15,12 @@ use ptk_words::PartId;
 pub fn difference(report: &[u8], expected: &[u8]) -> Option<Fault<'static>>
     ensures { MatchOption result (report.now ≡ expected.now) (IsFirstDifference report.now expected.now) }
 {
-    match first_other(report, expected) {
-        Some(offset) => {
-            let got = report.get(offset).copied();
-            let wanted = expected.get(offset).copied();
-            let before = offset.min(report.len());
-            let line = line_behind(&report[..before]);
-            Some(Fault::Differs(offset as u64, line, got, wanted))
-        }
-        None => None,
-    }
+    let offset = first_other(report, expected)?;
+    let got = report.get(offset).copied();
+    let wanted = expected.get(offset).copied();
+    let before = offset.min(report.len());
+    let line = line_behind(&report[..before]);
+    Some(Fault::Differs(offset as u64, line, got, wanted))
 }
 
 /// The first offset at which the bytes differ, one of which may end there. None where they are the same.
