@@ -98,7 +98,8 @@ fn json_of(alloc: Global, system: &System<'_>, p: PartId) -> Result<String, Faul
 fn code_of(status: PartStatus) -> Option<u8> {
     match status {
         PartStatus::Exited(code) => Some(code),
-        _ => None,
+        PartStatus::Idle | PartStatus::Running | PartStatus::Stopped(..) | PartStatus::Refused(_) =>
+            None,
     }
 }
 
@@ -106,7 +107,8 @@ fn code_of(status: PartStatus) -> Option<u8> {
 fn cause_of(status: PartStatus) -> Option<&'static str> {
     match status {
         PartStatus::Stopped(cause, _) => Some(cause_word(cause)),
-        _ => None,
+        PartStatus::Idle | PartStatus::Running | PartStatus::Exited(_) | PartStatus::Refused(_) =>
+            None,
     }
 }
 
@@ -114,7 +116,8 @@ fn cause_of(status: PartStatus) -> Option<&'static str> {
 fn pc_of(status: PartStatus) -> Option<u32> {
     match status {
         PartStatus::Stopped(_, pc) => Some(pc),
-        _ => None,
+        PartStatus::Idle | PartStatus::Running | PartStatus::Exited(_) | PartStatus::Refused(_) =>
+            None,
     }
 }
 
@@ -122,7 +125,8 @@ fn pc_of(status: PartStatus) -> Option<u32> {
 fn image_fault_of(status: PartStatus) -> Option<u8> {
     match status {
         PartStatus::Refused(fault) => Some(fault.number()),
-        _ => None,
+        PartStatus::Idle | PartStatus::Running | PartStatus::Exited(_) | PartStatus::Stopped(..) =>
+            None,
     }
 }
 
