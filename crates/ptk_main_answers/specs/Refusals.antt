@@ -14,14 +14,14 @@ use Rattle.ptk_main_runs.specs.declared.runs.RunFault.TheVariants as run
 use Rattle.ptk_main_answers.specs.Images.{first_refused, image_name, image_refusal}
 use Rattle.ptk_main_runs.specs.World.{section_at}
 
--- ---- the program's fault for one of the layers below
+-- ---- faults of the layers below
 
--- for a boot's (own)
+-- the program's fault for that of a boot (own)
 abbrev pub boot_fault : Configuration → BootFault → Fault
 boot_fault config boot.Memory = NoMemory
 boot_fault config (boot.MissingFile p) = MissingFile (text (image_name config p))
 
--- for a run's, where the partition of this name was asked for (own)
+-- the program's fault for that of a run, where the partition of this name was asked for (own)
 abbrev pub run_fault : Configuration → List ℕ → RunFault → Fault
 run_fault config name (run.Boot fault) = boot_fault config fault
 run_fault config name run.NoPartition = NoPartition (text name)
