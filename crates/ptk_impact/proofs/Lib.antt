@@ -1,3 +1,4 @@
+pub mod Exact
 pub mod Tails
 pub mod Rows
 pub mod Outputs

@@ -1,7 +1,9 @@
 //! How the images of two partitions differ.
 
 ghost use Rattle.std.specs.Prelude.{◌≡◌, MatchOption, option_map};
-ghost use Rattle.ptk_impact.specs.Changes.{IsFirstOther, IsImageChange};
+ghost use Rattle.ptk_impact.specs.Changes.{IsImageChange};
+
+use crate::lists::first_other;
 
 /// How the bytes of the images differ.
 #[derive(Clone, Copy)]
@@ -29,16 +31,4 @@ impl ImageChange {
             (Some(old), Some(new)) => first_other(old, new).map(ImageChange::Bytes),
         }
     }
-}
-
-/// The first offset at which the bytes differ, one of which may end there. None where they are the same.
-fn first_other(old: &[u8], new: &[u8]) -> Option<usize>
-    ensures { MatchOption result (old.now ≡ new.now) (IsFirstOther old.now new.now) }
-{
-    for offset in 0..old.len().max(new.len()) {
-        if old.get(offset).copied() != new.get(offset).copied() {
-            return Some(offset);
-        }
-    }
-    None
 }

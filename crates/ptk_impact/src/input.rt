@@ -1,8 +1,9 @@
 //! Where the inputs of two partitions differ.
 
 ghost use Rattle.std.specs.Prelude.{◌≡◌, MatchOption};
-ghost use Rattle.ptk_impact.specs.Changes.{IsFirstOther, IsInputChange};
+ghost use Rattle.ptk_impact.specs.Changes.{IsInputChange};
 
+use crate::lists::first_other;
 use ptk_words::Arrival;
 
 /// The first place in the input at which the arrivals differ, with both, None past the last.
@@ -28,16 +29,4 @@ impl InputChange {
             new: new.get(place).copied(),
         })
     }
-}
-
-/// The first place at which the arrivals differ, one of which may end there. None where they are the same.
-fn first_other(old: &[Arrival], new: &[Arrival]) -> Option<usize>
-    ensures { MatchOption result (old.now ≡ new.now) (IsFirstOther old.now new.now) }
-{
-    for place in 0..old.len().max(new.len()) {
-        if old.get(place).copied() != new.get(place).copied() {
-            return Some(place);
-        }
-    }
-    None
 }

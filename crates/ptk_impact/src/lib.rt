@@ -25,6 +25,7 @@ mod input;
 mod laws;
 mod limit_laws;
 mod limits;
+mod lists;
 mod subject;
 
 pub use changes::Changes;
