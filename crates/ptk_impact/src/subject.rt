@@ -38,9 +38,6 @@ impl<'a> Subject<'a> {
         ensures { option_map (λ bytes. bytes.now) result ≡ image_in self.now.files.now (section_of self.now).image }
     {
         let files = self.files;
-        match self.section().image() {
-            Some(name) => files.get(name),
-            None => None,
-        }
+        files.get(self.section().image()?)
     }
 }
