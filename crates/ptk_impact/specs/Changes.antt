@@ -1,5 +1,5 @@
 -- What differs between two partitions.
-use Rattle.std.specs.Prelude.{◌≡◌, ◌≢◌, ◌↔◌, ℕ, ◌<◌, List, slice_get, Option, Some, None, IfSome, IsNone, MatchOption}
+use Rattle.std.specs.Prelude.{◌≡◌, ◌≢◌, ◌↔◌, ℕ, ◌<◌, List, slice_get, Option, IfSome, IsNone, IsSome, IsSomeAnd, MatchOption}
 use Rattle.ptk_words.specs.declared.sections.Arrival.{Arrival}
 use Rattle.ptk_words.specs.declared.sections.Limits.{Limits}
 use Rattle.ptk_system.specs.Missing.{image_in}
@@ -22,7 +22,7 @@ pub record IsFirstOther {A : Type 0} (xs ys : List A) (place : ℕ) : Type 0 whe
 abbrev pub IsNumberChange : ℕ → ℕ → Option LimitChange → Type 0
 IsNumberChange old new change = MatchOption change (old ≡ new) (λ c. (old ≢ new) × (c.old ≡ old) × (c.new ≡ new))
 
--- so it is of each limit (own)
+-- for each limit none where it is the same, and both numbers where it differs (own)
 pub record AreLimitChanges (old new : Limits) (changes : LimitChanges) : Type 0 where
   pub memory : IsNumberChange old.memory new.memory changes.memory
   pub threads : IsNumberChange old.threads new.threads changes.threads
@@ -35,12 +35,11 @@ pub record AreLimitChanges (old new : Limits) (changes : LimitChanges) : Type 0 
   pub output : IsNumberChange old.output new.output changes.output
   pub trace : IsNumberChange old.trace new.trace changes.trace
 
--- how the bytes of two images differ (own)
+-- how the bytes of two images differ: only the new partition has one, only the old one has, or both have and the bytes differ first at this offset (own)
 abbrev pub IsImageChange : Option (List ℕ) → Option (List ℕ) → ImageChange → Type 0
-IsImageChange None (Some new) Added = Unit {0}
-IsImageChange (Some old) None Removed = Unit {0}
-IsImageChange (Some old) (Some new) (Bytes offset) = IsFirstOther old new offset
-IsImageChange old new change = ⊥
+IsImageChange old new Added = IsNone old × IsSome new
+IsImageChange old new Removed = IsSome old × IsNone new
+IsImageChange old new (Bytes offset) = IsSomeAnd old (λ before. IsSomeAnd new (λ after. IsFirstOther before after offset))
 
 -- the first place at which the arrivals differ, with both (own)
 pub record IsInputChange (old new : List Arrival) (change : InputChange) : Type 0 where

@@ -13,15 +13,15 @@ use Rattle.ptk_impact.specs.declared.subject.Subject.{Subject}
 
 -- ---- a partition of a system
 
--- the section is there (own)
+-- the configuration has a section at the place of the partition (own)
 abbrev pub IsPartition : Subject → Type 0
 IsPartition s = s.partition < length s.config.now.sections
 
--- its section (own)
+-- the section of a partition (own)
 abbrev pub section_of : Subject → Section
 section_of s = section_at s.config.now s.partition
 
--- its system after n ticks (own)
+-- the system of a partition after n ticks (own)
 abbrev pub world_after : ℕ → Subject → World
 world_after n s = world_at s.config.now s.files.now n
 
@@ -40,7 +40,7 @@ pub record SeenAlikeButTrace (old new : Subject) : Type 0 where
 
 -- ---- runs
 
--- their parts of the report are the same, where they have one name (own)
+-- the parts of the report of two partitions are the same after n ticks, where they have one name (own)
 abbrev pub ReportsAreSame : Subject → Subject → ℕ → Type 0
 ReportsAreSame old new n =
     (section_of old).name ≡ (section_of new).name → part_report (world_after n old) old.partition ≡ part_report (world_after n new) new.partition
