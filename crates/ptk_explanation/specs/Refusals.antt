@@ -13,16 +13,23 @@ use Rattle.ptk_rv32i_code.specs.Coding.{decoded}
 abbrev pub sum_of : Processor → ℕ → ℕ → Pointer
 sum_of cpu rs1 offset = word_of (register cpu rs1 + sign_extension 12 offset)
 
--- the address that an instruction loads from, stores to or goes to (RISC-V 2.5, 2.6)
+-- the address that an instruction loads from, stores to or goes to, None of one that does none of these (RISC-V 2.5, 2.6)
 abbrev pub address_of : Processor → Instr → Option Pointer
 address_of cpu (instr.Load kind rd rs1 offset) = Some (sum_of cpu rs1 offset)
 address_of cpu (instr.Store kind rs1 rs2 offset) = Some (sum_of cpu rs1 offset)
 address_of cpu (instr.Jalr rd rs1 offset) = Some (sum_of cpu rs1 offset - sum_of cpu rs1 offset % 2)
 address_of cpu (instr.Jal rd offset) = Some (word_of (cpu.pc + sign_extension 21 offset))
 address_of cpu (instr.Branch test rs1 rs2 offset) = Some (word_of (cpu.pc + sign_extension 13 offset))
-address_of cpu _ = None
+address_of cpu (instr.Lui rd upper) = None
+address_of cpu (instr.Auipc rd upper) = None
+address_of cpu (instr.WithImmediate op rd rs1 immediate) = None
+address_of cpu (instr.Shift op rd rs1 amount) = None
+address_of cpu (instr.WithRegister op rd rs1 rs2) = None
+address_of cpu (instr.Fence rd rs1 fields) = None
+address_of cpu instr.Ecall = None
+address_of cpu instr.Ebreak = None
 
--- the same of a word's instruction, if it has one
+-- the address that the instruction of a word loads from, stores to or goes to, None where the word is no instruction (RISC-V 2.5, 2.6)
 abbrev pub address_in : Processor → Option Instr → Option Pointer
 address_in cpu None = None
 address_in cpu (Some i) = address_of cpu i

@@ -1,21 +1,12 @@
 //! The address for which an instruction was not carried out.
 
-ghost use Rattle.std.specs.Prelude.{◌≡◌, ◌<◌, ◌≤◌, ◌+◌, ◌^◌};
-ghost use Rattle.ptk_words.specs.Words.{sign_extension, word_of};
+ghost use Rattle.std.specs.Prelude.{◌≡◌};
 ghost use Rattle.ptk_rv32i_code.specs.Coding.{decoded};
 ghost use Rattle.ptk_explanation.specs.Refusals as is;
 
+use ptk_disasm::{BRANCH_BITS, IMMEDIATE_BITS, JUMP_BITS, address_at};
 use ptk_rv32i_code::{Instr, decode};
 use ptk_words::{Cpu, FaultKind};
-
-/// The bits of an immediate (RISC-V 2.3).
-const IMMEDIATE_BITS: u32 = 12;
-
-/// The bits of a branch's offset, with the lowest, which is 0 (RISC-V 2.3).
-const BRANCH_BITS: u32 = 13;
-
-/// The bits of a jump's offset, with the lowest, which is 0 (RISC-V 2.3).
-const JUMP_BITS: u32 = 21;
 
 /// The bytes of a word (RISC-V 1.5).
 const WORD_BYTES: u32 = 4;
@@ -47,38 +38,29 @@ fn address_in(cpu: &Cpu, word: u32) -> Option<u32>
     address_of(cpu, decode(word)?)
 }
 
-/// The address that an instruction goes to, loads from or stores to (RISC-V 2.5, 2.6).
+/// The address that an instruction goes to, loads from or stores to (RISC-V 2.5, 2.6); None of every other.
 fn address_of(cpu: &Cpu, instruction: Instr) -> Option<u32>
     ensures { result ≡ is.address_of cpu.now instruction }
 {
     match instruction {
         Instr::Load { rs1, offset, .. } | Instr::Store { rs1, offset, .. } => {
             let base = cpu.register(rs1.number());
-            Some(moved_by(base, IMMEDIATE_BITS, offset.number()))
+            Some(address_at(base, IMMEDIATE_BITS, offset.number()))
         }
         Instr::Jalr { rs1, offset, .. } => {
             let base = cpu.register(rs1.number());
-            let sum = moved_by(base, IMMEDIATE_BITS, offset.number());
+            let sum = address_at(base, IMMEDIATE_BITS, offset.number());
             Some(sum - sum % 2)
         }
-        Instr::Jal { offset, .. } => Some(moved_by(cpu.pc(), JUMP_BITS, offset.number())),
-        Instr::Branch { offset, .. } => Some(moved_by(cpu.pc(), BRANCH_BITS, offset.number())),
-        _ => None,
-    }
-}
-
-/// The sum of a word and a field of this width in two's complement (RISC-V 2.3).
-fn moved_by(word: u32, width: u32, bits: u32) -> u32
-    requires some { 0 < width }
-    requires narrow { width ≤ 21 }
-    requires inside { bits < 2 ^ width }
-    ensures { result ≡ word_of (word + sign_extension width bits) }
-{
-    let half = 2u32.pow(width - 1);
-    if bits < half {
-        word.wrapping_add(bits)
-    } else {
-        let upper = u32::MAX - (2 * half - 1);
-        word.wrapping_add(bits + upper)
+        Instr::Jal { offset, .. } => Some(address_at(cpu.pc(), JUMP_BITS, offset.number())),
+        Instr::Branch { offset, .. } => Some(address_at(cpu.pc(), BRANCH_BITS, offset.number())),
+        Instr::Lui { .. }
+        | Instr::Auipc { .. }
+        | Instr::WithImmediate { .. }
+        | Instr::Shift { .. }
+        | Instr::WithRegister { .. }
+        | Instr::Fence { .. }
+        | Instr::Ecall
+        | Instr::Ebreak => None,
     }
 }
