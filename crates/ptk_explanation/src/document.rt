@@ -153,12 +153,10 @@ impl Target {
 
 /// The thread that owns the mutex for which a thread waits.
 fn owner_number(facts: &ThreadFacts) -> Option<u8> {
-    match &facts.awaited {
-        Some(awaited) => match &awaited.owner() {
-            Some(Owner::OwnedBy(u)) => Some(u.number()),
-            Some(Owner::Free) | Some(Owner::Abandoned) | None => None,
-        },
-        None => None,
+    let awaited = facts.awaited.as_ref()?;
+    match awaited.owner()? {
+        Owner::OwnedBy(u) => Some(u.number()),
+        Owner::Free | Owner::Abandoned => None,
     }
 }
 
@@ -288,10 +286,7 @@ fn push_stop(
     symbols: &Symbols<'_>,
 ) -> Result<(), AllocError> {
     let place = Place::of(symbols, Some(stop.step.pc));
-    let instruction = match &stop.statement {
-        Some(statement) => Some(statement.as_str()),
-        None => None,
-    };
+    let instruction = stop.statement.as_deref();
     let members = stop_members(stop, place, instruction);
     out.push_str(",\"fault\":")?;
     push_members(alloc, out, &members)?;

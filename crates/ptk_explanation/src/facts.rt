@@ -28,10 +28,8 @@ pub(crate) struct Awaited {
 impl Awaited {
     /// Who owns the mutex.
     pub(crate) fn owner(&self) -> Option<Owner> {
-        match &self.state {
-            Some(state) => Some(state.owner),
-            None => None,
-        }
+        let state = self.state.as_ref()?;
+        Some(state.owner)
     }
 }
 

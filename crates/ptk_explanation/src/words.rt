@@ -54,10 +54,7 @@ pub(crate) struct Doing {
 impl Doing {
     /// Who owns the mutex that the thread waits for.
     fn owner(&self) -> OwnedBy {
-        match &self.awaited {
-            Some(awaited) => OwnedBy(awaited.owner()),
-            None => OwnedBy(None),
-        }
+        OwnedBy(self.awaited.as_ref().and_then(|awaited| awaited.owner()))
     }
 }
 
