@@ -19,7 +19,7 @@ blocker_of_wait locks (MutexWait m (Some deadline)) = None
 blocker_of_wait locks (ConditionWait c m deadline) = None
 blocker_of_wait locks (RelockWait m reply) = owner_thread locks m
 
--- the same of what a thread does
+-- the thread for which a thread that does this waits, None where it does not wait (own)
 abbrev pub blocker_of : Locks → Activity → Option ThreadNumber
 blocker_of locks activity.Free = None
 blocker_of locks activity.Running = None
