@@ -21,7 +21,7 @@ pub record WasSeenAlike (renames : List Renamed) (old new : Release) (place : �
   pub matched : place_before renames old.config.now (section_at new.config.now place).name ≡ Some before
   pub alike : AreSeenAlike old before new place
 
--- so was each new partition that is asked for, of those before this place (own)
+-- each new partition that is asked for, of those before this place, was one of the old configuration, seen alike by boot (own)
 abbrev pub WereSeenAlike : List Renamed → Option (Bor (List ℕ)) → Release → Release → ℕ → Type 0
 WereSeenAlike renames asked old new places =
     (place : ℕ) → place < places → place < length new.config.now.sections → is_asked asked (section_at new.config.now place).name ≡ true

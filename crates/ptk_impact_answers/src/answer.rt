@@ -231,7 +231,7 @@ impl<'a, 'f> Releases<'a, 'f> {
                 old: refusal_of(alloc, limits.old, old.image())?,
                 new: refusal_of(alloc, limits.new, new.image())?,
             },
-            _ => Pair {
+            Impact::Unchanged | Impact::UnchangedButForTrace(_) => Pair {
                 old: None,
                 new: None,
             },
