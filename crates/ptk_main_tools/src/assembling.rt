@@ -76,29 +76,24 @@ fn put_files(
 
 // Writes the labels of a text into a file.
 fn put_labels(rt: &HostRuntime, text: &str, target: &str) -> Result<(), Fault<'static>> {
-    match label_table(rt.alloc(), text) {
-        Ok(table) => match fs::write(rt, target, table.as_bytes()) {
-            Ok(()) => Ok(()),
-            Err(_) => Err(Fault::WriteFailed),
-        },
-        Err(fault) => Err(Fault::of_asm(fault.line as u64, fault.kind.number())),
-    }
+    let table = label_table(rt.alloc(), text).map_err(|fault| fault_of(&fault))?;
+    fs::write(rt, target, table.as_bytes()).map_err(|_| Fault::WriteFailed)
 }
 
 // Writes an image into a file.
 fn put_image(rt: &HostRuntime, image: &Image, target: &str) -> Result<(), Fault<'static>> {
-    match write_image(rt.alloc(), image) {
-        Ok(bytes) => match fs::write(rt, target, bytes.as_slice()) {
-            Ok(()) => Ok(()),
-            Err(_) => Err(Fault::WriteFailed),
-        },
-        Err(_) => Err(Fault::NoMemory),
-    }
+    let bytes = write_image(rt.alloc(), image)?;
+    fs::write(rt, target, bytes.as_slice()).map_err(|_| Fault::WriteFailed)
+}
+
+// The fault of a refused source.
+fn fault_of(fault: &AsmFault) -> Fault<'static> {
+    Fault::of_asm(fault.line as u64, fault.kind.number())
 }
 
 // The status of a refused source, whose line goes to standard error, and behind it on request where and why.
 fn refused(rt: &HostRuntime, text: &str, explain: bool, fault: &AsmFault) -> u8 {
-    let line = Fault::of_asm(fault.line as u64, fault.kind.number());
+    let line = fault_of(fault);
     let status = tell(rt, &line);
     if explain && line != Fault::NoMemory {
         let _said = put_place(text.as_bytes(), fault, &mut rt.stderr());

@@ -26,10 +26,7 @@ pub fn disasm<'a>(rt: &HostRuntime, options: DisasmOptions<'a>) -> Result<(), Fa
         Some(file) => fs::write(rt, file, text.as_bytes()),
         None => rt.stdout().write_all(text.as_bytes()),
     };
-    match written {
-        Ok(()) => Ok(()),
-        Err(_) => Err(Fault::WriteFailed),
-    }
+    written.map_err(|_| Fault::WriteFailed)
 }
 
 /// The text of the image that these bytes are, by the name of its file: the assembler makes this image of it. A fault

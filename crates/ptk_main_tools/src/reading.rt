@@ -9,23 +9,17 @@ use std::{fs, io};
 /// The bytes of a file. A fault where it is not there, can't be read, or memory ran out. A path through a file is one
 /// of a file that is not there (own choice).
 pub fn bytes_in<'a>(rt: &HostRuntime, name: &'a str) -> Result<Vec<u8>, Fault<'a>> {
-    match fs::read(rt, name) {
-        Ok(bytes) => Ok(bytes),
-        Err(error) => match error.kind() {
-            io::ErrorKind::NotFound | io::ErrorKind::NotADirectory => Err(Fault::MissingFile(name)),
-            io::ErrorKind::OutOfMemory => Err(Fault::NoMemory),
-            _ => Err(Fault::ReadFailed(name)),
-        },
-    }
+    fs::read(rt, name).map_err(|error| match error.kind() {
+        io::ErrorKind::NotFound | io::ErrorKind::NotADirectory => Fault::MissingFile(name),
+        io::ErrorKind::OutOfMemory => Fault::NoMemory,
+        _ => Fault::ReadFailed(name),
+    })
 }
 
 /// The text of a file. A fault where the file can't be read, or is no text.
 pub fn text_in<'a>(rt: &HostRuntime, name: &'a str) -> Result<String, Fault<'a>> {
     let bytes = bytes_in(rt, name)?;
-    match String::from_utf8(bytes) {
-        Ok(text) => Ok(text),
-        Err(_) => Err(Fault::NotText(name)),
-    }
+    String::from_utf8(bytes).map_err(|_| Fault::NotText(name))
 }
 
 /// The configuration in a file. A fault where the file can't be read, is no text, or states no configuration.
@@ -36,10 +30,7 @@ pub fn config_in<'a>(rt: &HostRuntime, name: &'a str) -> Result<Config, Fault<'a
 
 /// The configuration that a text states. A fault where it states none.
 pub fn config_of(rt: &HostRuntime, text: &str) -> Result<Config, Fault<'static>> {
-    match read_config(rt.alloc(), text) {
-        Ok(config) => Ok(config),
-        Err(fault) => Err(Fault::of_config(fault)),
-    }
+    read_config(rt.alloc(), text).map_err(|fault| Fault::of_config(fault))
 }
 
 /// The text of a file of symbols, the empty one where no file is named.
@@ -56,11 +47,10 @@ pub fn symbols_of<'a, 't>(
     name: Option<&'a str>,
     text: &'t str,
 ) -> Result<Symbols<'t>, Fault<'a>> {
-    match read_symbols(rt.alloc(), text) {
-        Ok(symbols) => Ok(symbols),
-        Err(SymbolFault::Line(number)) => Err(Fault::Symbols(name.unwrap_or(""), number as u64)),
-        Err(SymbolFault::Memory) => Err(Fault::NoMemory),
-    }
+    read_symbols(rt.alloc(), text).map_err(|fault| match fault {
+        SymbolFault::Line(number) => Fault::Symbols(name.unwrap_or(""), number as u64),
+        SymbolFault::Memory => Fault::NoMemory,
+    })
 }
 
 /// The images that the sections name, in their order, each looked up by its name behind the folder `root` and a slash,
@@ -100,15 +90,12 @@ fn image_bytes<'a>(
     let Some(root) = root else {
         return bytes_in(rt, name);
     };
-    match format!(in rt.alloc(); "{root}/{name}") {
-        Ok(path) => match bytes_in(rt, path.as_str()) {
-            Ok(bytes) => Ok(bytes),
-            Err(Fault::MissingFile(_)) => Err(Fault::MissingFile(name)),
-            Err(Fault::NoMemory) => Err(Fault::NoMemory),
-            Err(_) => Err(Fault::ReadFailed(name)),
-        },
-        Err(_) => Err(Fault::NoMemory),
-    }
+    let path = format!(in rt.alloc(); "{root}/{name}").map_err(|_| Fault::NoMemory)?;
+    bytes_in(rt, path.as_str()).map_err(|fault| match fault {
+        Fault::MissingFile(_) => Fault::MissingFile(name),
+        Fault::NoMemory => Fault::NoMemory,
+        _ => Fault::ReadFailed(name),
+    })
 }
 
 // Adds the file of this name, where it is there.
@@ -119,10 +106,7 @@ fn add_image<'a>(
     root: Option<&str>,
 ) -> Result<(), Fault<'a>> {
     match image_bytes(rt, name, root) {
-        Ok(bytes) => match files.add(name, &bytes) {
-            Ok(()) => Ok(()),
-            Err(_) => Err(Fault::NoMemory),
-        },
+        Ok(bytes) => Ok(files.add(name, &bytes)?),
         Err(Fault::MissingFile(_)) => Ok(()),
         Err(fault) => Err(fault),
     }
