@@ -74,7 +74,8 @@ pub fn refusal_explained(rt: &HostRuntime, text: &str, fault: Fault<'static>) ->
     }
 }
 
-// The same in a JSON object.
+// The fault of a refused text, after the JSON object of the refusal, which goes to standard output; that of the host
+// where it can't be written. Out of memory says nothing of the text, and comes alone.
 fn refusal_json(rt: &HostRuntime, text: &str, fault: Fault<'static>) -> Fault<'static> {
     if fault == Fault::NoMemory {
         return fault;

@@ -73,7 +73,7 @@ fn trace_config<'a>(
     trace_answer(rt.alloc(), config, &files, ticks, options.partition, out)
 }
 
-// The same in words.
+// The last steps of a partition of a configuration in words, on standard output.
 fn put_words<'a>(
     rt: &HostRuntime,
     config: &'a Config,

@@ -35,7 +35,7 @@ adds_now world p c alone at early steps lost adds =
       adds = adds;
     }
 
--- the same count of the same run at a later tick
+-- a count that adds up with a system adds up with it at a later tick of its run
 pub adds_later : (world later : World) (n p : ℕ) (c : Counted) → later ≡ at_tick n world → AddsUp world p c → AddsUp later p c
 adds_later world later n p c goes is =
     let there : AddsUp (at_tick n world) p c = record { early = is.early; steps = is.steps; lost = is.lost; adds = is.adds } in

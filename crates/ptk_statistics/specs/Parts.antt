@@ -19,12 +19,12 @@ pub record IsKept (world : World) (p : ℕ) (part : PartStatistics) : Type 0 whe
   pub adds : AddsUp world p part.counted
   pub before : reached part.counted ≤ world.tick
 
--- so do those of each partition
+-- the figures of each partition add up at a tick that the system has reached
 pub record AreKept (world : World) (parts : List PartStatistics) : Type 0 where
   pub count : length parts ≡ length world.config.sections
   pub each : (p : ℕ) (default : PartStatistics) → p < length parts → IsKept world p (slice_index_or parts p default)
 
--- those of the first so many partitions are counted to the system's tick
+-- the figures of the first `count` partitions are counted to the system's tick
 abbrev pub AreEnded : World → ℕ → List PartStatistics → Type 0
 AreEnded world count parts = (p : ℕ) (default : PartStatistics) → p < count → p < length parts → reached (slice_index_or parts p default).counted ≡ world.tick
 

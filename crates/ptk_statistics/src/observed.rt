@@ -354,8 +354,8 @@ fn take_reply(thread: &mut ThreadStatistics, system: &System<'_>, p: PartId, t: 
     }
 }
 
-/// The same of a thread that makes a step with the decision that woke it: a wait for a mutex or on a condition variable
-/// ended by its deadline, and each other wait well.
+/// The reply to the call with which a thread blocked, where the decision that woke it makes a step of it too: an error
+/// where it waited for a mutex or on a condition variable, since its deadline ended that wait.
 fn take_late_reply(thread: &mut ThreadStatistics, entry: &Entry) {
     let Some(pending) = thread.pending() else {
         return;

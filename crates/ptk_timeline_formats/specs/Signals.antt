@@ -73,10 +73,11 @@ abbrev pub number_or_none : Option ℕ → ℕ
 number_or_none None = 0
 number_or_none (Some number) = number
 
--- the line of what a thread does, and that of its effective priority; a partition has 67 signals (own)
+-- the line of what a thread does; a partition has 67 signals (own)
 abbrev pub state_line : ℕ → ℕ → Shown → List ℕ
 state_line p t shown = vector_line (state_number shown.doing) (p * 67 + 3 + 2 * (t - 1))
 
+-- the line of a thread's effective priority, whose signal is behind that of what the thread does (own)
 abbrev pub priority_line : ℕ → ℕ → Shown → List ℕ
 priority_line p t shown = vector_line (number_or_none shown.priority) (p * 67 + 4 + 2 * (t - 1))
 
@@ -106,7 +107,7 @@ change_lines at tick p change = if is_signal change then (if nat_lt at tick then
 abbrev pub tick_behind : ℕ → ℕ → Change → ℕ
 tick_behind at tick change = if is_signal change then tick else at
 
--- the same of changes in their order
+-- what a dump has of changes at a tick, in their order, whose last line before them is of tick `at`; nothing of a place without a change (IEEE 1364-2005, 18.2.1)
 abbrev pub changes_lines : ℕ → ℕ → ℕ → List (Option Change) → List ℕ
 changes_lines at tick p [] = []
 changes_lines at tick p (None ∷ rest) = changes_lines at tick p rest

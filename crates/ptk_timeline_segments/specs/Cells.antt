@@ -14,7 +14,7 @@ count_from look place a (suc n) = count_from look place a n + (if place_in (look
 abbrev pub count_of : (ℕ → Look) → ℕ → ℕ → ℕ → ℕ
 count_of look place a b = count_from look place a (b - a)
 
--- it is the last look of its shade from a on and before b
+-- from a on and before b there is this look, and behind it none of its shade
 pub record IsLastOfShade (look : ℕ → Look) (a b : ℕ) (last : Look) : Type 0 where
   pub tick : ℕ
   pub from : a ≤ tick

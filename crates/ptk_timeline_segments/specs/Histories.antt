@@ -29,7 +29,7 @@ raised_of locks t (Some thread) = if nat_lt thread.priority (effective_priority 
 abbrev pub look_in : ℕ → Part → Look
 look_in t s = record { activity = activity_in t s; owner = owner_for (activity_in t s) s; raised = raised_of s.locks t (thread_at s.locks t) }
 
--- the same look of a thread that a step keeps running
+-- the look while a step keeps the thread running: running, without an owner, with this look's raised priority
 abbrev pub stepping : Look → Look
 stepping look = record { activity = Running; owner = None; raised = look.raised }
 

@@ -10,6 +10,7 @@ use Rattle.ptk_timeline_segments.specs.declared.look.Look.{Look}
 use Rattle.ptk_timeline_segments.specs.declared.numbers.Parts.{Parts}
 use Rattle.ptk_timeline_segments.specs.Shades.{place_in}
 
+-- 1 for true, 0 for false
 abbrev pub bit_of : Bool → ℕ
 bit_of true = 1
 bit_of false = 0

@@ -99,7 +99,7 @@ impl Look {
         }
     }
 
-    /// The same look of a thread that a step keeps running.
+    /// The look while a step keeps the thread running: running, without an owner, with this look's raised priority.
     pub(crate) fn stepping(&self) -> Look
         ensures { result ≡ stepping self.now }
     {

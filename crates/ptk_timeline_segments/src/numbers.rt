@@ -86,7 +86,7 @@ fn parts_with(first: u64, second: u64, more: u64, last: u64) -> Parts
     }
 }
 
-/// 1 where it is so, else 0.
+/// 1 for true, 0 for false.
 fn bit_of(is_so: bool) -> u64
     ensures { result ≡ bit_of is_so }
 {
