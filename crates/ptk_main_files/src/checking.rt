@@ -97,8 +97,5 @@ fn put_refusal(rt: &HostRuntime, text: &str, fault: &Fault<'static>) -> Result<(
 fn explanation(rt: &HostRuntime, text: &str, files: &Files) -> Result<String, Fault<'static>> {
     let mut bytes = Vec::new(rt.alloc());
     explain_with(rt.alloc(), text, files, &mut bytes)?;
-    match String::from_utf8(bytes) {
-        Ok(words) => Ok(words),
-        Err(_) => Err(Fault::NotText("the explanation")),
-    }
+    String::from_utf8(bytes).map_err(|_| Fault::NotText("the explanation"))
 }

@@ -33,10 +33,7 @@ fn run_config<'a>(
 ) -> Result<(), Fault<'a>>
     requires { options.run.ticks ≤ LAST_TICK }
 {
-    let expected = match options.expect {
-        Some(name) => Some(bytes_in(rt, name)?),
-        None => None,
-    };
+    let expected = options.expect.map(|name| bytes_in(rt, name)).transpose()?;
     let files = images_of(rt, config, options.run.root)?;
     let question = RunQuestion {
         ticks: Tick::new(options.run.ticks),

@@ -118,8 +118,5 @@ fn thread_of(number: Option<u64>) -> Option<ThreadNo>
     requires { IsThread number }
     ensures { result ≡ number }
 {
-    match number {
-        Some(number) => Some(ThreadNo::new(number as u8)),
-        None => None,
-    }
+    Some(ThreadNo::new(number? as u8))
 }

@@ -51,21 +51,15 @@ attributes:
 
 /// The configuration whose text these parts make, None where there is none.
 pub fn config_of(alloc: Global, parts: &[&str]) -> Option<Config> {
-    match parts.concat(alloc) {
-        Ok(text) => read_config(alloc, text.as_str()).ok(),
-        Err(_) => None,
-    }
+    let text = parts.concat(alloc).ok()?;
+    read_config(alloc, text.as_str()).ok()
 }
 
 /// The bytes of the image of the source that these parts make, None where there is none.
 pub fn image_of(alloc: Global, source: &[&str]) -> Option<Vec<u8>> {
-    match source.concat(alloc) {
-        Ok(text) => match assemble(alloc, text.as_str()) {
-            Ok(image) => write_image(alloc, &image).ok(),
-            Err(_) => None,
-        },
-        Err(_) => None,
-    }
+    let text = source.concat(alloc).ok()?;
+    let image = assemble(alloc, text.as_str()).ok()?;
+    write_image(alloc, &image).ok()
 }
 
 /// The files with these bytes as the image of p, and with these as that of q where there are some. An error where
@@ -86,28 +80,21 @@ fn files_of(alloc: Global, source: &[&str]) -> Option<Files> {
 
 /// The configuration, and the files with the guest's image.
 pub fn guest_of(alloc: Global, parts: &[&str], source: &[&str]) -> Option<(Config, Files)> {
-    match (config_of(alloc, parts), files_of(alloc, source)) {
-        (Some(config), Some(files)) => Some((config, files)),
-        _ => None,
-    }
+    Some((config_of(alloc, parts)?, files_of(alloc, source)?))
 }
 
 /// The report after this many ticks, None where there is none.
 pub fn report_of(alloc: Global, config: &Config, files: &Files, ticks: u64) -> Option<Vec<u8>> {
     let mut out = Vec::new(alloc);
-    match run_with(alloc, config, files, tick_of(ticks), &mut out) {
-        Ok(()) => Some(out),
-        Err(_) => None,
-    }
+    run_with(alloc, config, files, tick_of(ticks), &mut out).ok()?;
+    Some(out)
 }
 
 // The trace of p after this many ticks, None where there is none.
 fn trace_of(alloc: Global, config: &Config, files: &Files, ticks: u64) -> Option<Vec<u8>> {
     let mut out = Vec::new(alloc);
-    match trace_with(alloc, config, files, tick_of(ticks), "p", &mut out) {
-        Ok(()) => Some(out),
-        Err(_) => None,
-    }
+    trace_with(alloc, config, files, tick_of(ticks), "p", &mut out).ok()?;
+    Some(out)
 }
 
 // Whether there are bytes, and they are those of the text that is wanted.

@@ -233,10 +233,8 @@ pub fn first_wrong_trace<'a>(alloc: Global, rows: &[TraceRow<'a>]) -> Option<&'a
 /// The system's report, None where memory ran out.
 pub fn report_now(alloc: Global, system: &System<'_>) -> Option<Vec<u8>> {
     let mut out = Vec::new(alloc);
-    match system.report(&mut out) {
-        Ok(()) => Some(out),
-        Err(_) => None,
-    }
+    system.report(&mut out).ok()?;
+    Some(out)
 }
 
 /// The trace of the partition at this place, None where there is no such partition or memory ran out.
@@ -246,10 +244,8 @@ pub fn trace_now(alloc: Global, system: &System<'_>, place: u8) -> Option<Vec<u8
         return None;
     }
     let mut out = Vec::new(alloc);
-    match system.trace(PartId::new(place)).lines(&mut out) {
-        Ok(()) => Some(out),
-        Err(_) => None,
-    }
+    system.trace(PartId::new(place)).lines(&mut out).ok()?;
+    Some(out)
 }
 
 // The first entry that is not the report of a system that goes on from entry to entry, each after this many ticks.

@@ -37,26 +37,20 @@ fn fault(alloc: Global, text: &str) -> (u8, u8) {
 
 /// The fault of the text of these parts, `None` where memory ran out.
 fn fault_in(alloc: Global, parts: &[&str]) -> Option<(u8, u8)> {
-    match parts.concat(alloc) {
-        Ok(text) => Some(fault(alloc, text.as_str())),
-        Err(_) => None,
-    }
+    let text = parts.concat(alloc).ok()?;
+    Some(fault(alloc, text.as_str()))
 }
 
 /// The fault of the good document with one text in place of another, `None` where memory ran out.
 fn changed(alloc: Global, old: &str, new: &str) -> Option<(u8, u8)> {
-    match replaced(alloc, &GOOD, old, new) {
-        Ok(text) => Some(fault(alloc, text.as_str())),
-        Err(_) => None,
-    }
+    let text = replaced(alloc, &GOOD, old, new).ok()?;
+    Some(fault(alloc, text.as_str()))
 }
 
 /// The configuration of the text of these parts, `None` where it is refused or memory ran out.
 fn config_in(alloc: Global, parts: &[&str]) -> Option<Config> {
-    match parts.concat(alloc) {
-        Ok(text) => read_config(alloc, text.as_str()).ok(),
-        Err(_) => None,
-    }
+    let text = parts.concat(alloc).ok()?;
+    read_config(alloc, text.as_str()).ok()
 }
 
 /// The numbers of the good document's section.
@@ -207,13 +201,11 @@ struct Many<'a> {
 /// The fault of such a document, `None` where memory ran out.
 fn fault_of_many(alloc: Global, many: &Many<'_>) -> Option<(u8, u8)> {
     let (head, tail) = (&many.head, &many.tail);
-    match many.part.repeat(alloc, many.count) {
-        Ok(part) => fault_in(
-            alloc,
-            &[head[0], head[1], head[2], part.as_str(), tail[0], tail[1]],
-        ),
-        Err(_) => None,
-    }
+    let part = many.part.repeat(alloc, many.count).ok()?;
+    fault_in(
+        alloc,
+        &[head[0], head[1], head[2], part.as_str(), tail[0], tail[1]],
+    )
 }
 
 /// One window, one section and one byte of input more than there may be, and as many bytes as there may be.
@@ -273,10 +265,8 @@ fn plans(alloc: Global, numbers: &[&str], more: &str) -> Result<String, AllocErr
 
 /// The fault of a document of a frame of 40 ticks, of which p has the first half, with these plans.
 fn with_plans(alloc: Global, numbers: &[&str], more: &str) -> Option<(u8, u8)> {
-    match plans(alloc, numbers, more) {
-        Ok(key) => fault_in(alloc, &[FRAME_40, key.as_str(), SECTION, WINDOW]),
-        Err(_) => None,
-    }
+    let key = plans(alloc, numbers, more).ok()?;
+    fault_in(alloc, &[FRAME_40, key.as_str(), SECTION, WINDOW])
 }
 
 /// The end of p's window that holds the tick, 0 where none does.

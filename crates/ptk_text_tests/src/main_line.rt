@@ -272,10 +272,8 @@ fn help_says_the_statuses_and_an_example(rt: HostRuntime) {
 
 /// The kind of an error and whether it goes to stderr, `None` where memory ran out.
 fn kind_of(error: Result<Error, AllocError>) -> Option<(ErrorKind, bool)> {
-    match error {
-        Ok(error) => Some((error.kind(), error.use_stderr())),
-        Err(_) => None,
-    }
+    let error = error.ok()?;
+    Some((error.kind(), error.use_stderr()))
 }
 
 #[test]

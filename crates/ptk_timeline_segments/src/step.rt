@@ -46,14 +46,9 @@ pub(crate) fn step_at(system: &System<'_>, p: PartId, tick: u64, steps: u64) -> 
     if steps >= system.steps(p) {
         return None;
     }
+    let thread = system.last_step(p)?.thread;
     let until = step_end(system, p, tick);
-    match system.last_step(p) {
-        Some(step) => Some(Busy {
-            thread: step.thread,
-            until,
-        }),
-        None => None,
-    }
+    Some(Busy { thread, until })
 }
 
 /// The tick behind the step that began at this one and left the system as it is: that of the partition's next decision,
