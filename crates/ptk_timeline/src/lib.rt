@@ -7,7 +7,7 @@
 //!   over by `next_window`.
 //! - `picture_with` leaves the system at the picture's end (`ran`), and returns `NoTicks` only where `from` is not
 //!   before `to` (`none`), and a picture only where it is (`some`).
-//! - A lane's head is the partition's name with what it is at the end, byte for byte (`write_head`, `head_text`).
+//! - A lane's head is the partition's name with what it is at the end, byte for byte (`write_head`, `lane_head`).
 //! - Which other bytes are written is tested: the gate compares four stored pictures (`ptk_main_stored`).
 //!
 //! It opens in any browser, without script or network. A column of the picture is a column of `ptk_timeline_segments`,

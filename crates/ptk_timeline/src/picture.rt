@@ -4,7 +4,7 @@ ghost use Rattle.std.specs.Prelude.{◌≡◌, ◌≤◌, ◌<◌, IfErr, IfOk, 
 ghost use Rattle.std.specs.Io.KnownBytes.{Appends};
 ghost use Rattle.ptk_words.specs.declared.TheConstants.{LAST_TICK};
 ghost use Rattle.ptk_timeline_segments.specs.World.{at_tick};
-ghost use Rattle.ptk_timeline.specs.Heads.{head_text};
+ghost use Rattle.ptk_timeline.specs.Heads.{lane_head};
 
 use crate::axis::write_axis;
 use crate::layout::{
@@ -193,7 +193,7 @@ fn write_head<W: Write>(
     name: &str,
     status: PartStatus,
 ) -> io::Result<()>
-    ensures { OnOk result (Appends (W.contents out.old) (W.contents out.new) (head_text x y name.now status)) }
+    ensures { OnOk result (Appends (W.contents out.old) (W.contents out.new) (lane_head x y name.now status)) }
 {
     writeln!(
         out,
