@@ -3,7 +3,7 @@
 ghost use Rattle.std.specs.Prelude.{◌<◌, ◌≤◌};
 
 use ptk_config::Config;
-use ptk_timeline_segments::{Lane, Recording, Row, Scale, Shade};
+use ptk_timeline_segments::{Lane, LaneRow, Recording, Scale, Shade};
 use ptk_words::PartId;
 
 /// How many columns a picture has at most.
@@ -93,7 +93,7 @@ pub(crate) fn column_place(scale: Scale, column: usize) -> u64 {
 }
 
 /// Whether a row has a thread at some tick.
-pub(crate) fn is_shown(row: &Row) -> bool {
+pub(crate) fn is_shown(row: &LaneRow) -> bool {
     row.cells()
         .iter()
         .any(|cell| cell.is_mixed || cell.look.shade() != Shade::Free)

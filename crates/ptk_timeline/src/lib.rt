@@ -30,5 +30,5 @@ mod windows;
 pub use layout::MOST_COLUMNS;
 pub use picture::{PictureFault, picture_with};
 pub use ptk_symbols::Symbols;
-pub use ptk_timeline_segments::{Cell, Files, Recording, Row, Scale, Shade, System};
+pub use ptk_timeline_segments::{Cell, Files, LaneRow, Recording, Scale, Shade, System};
 pub use starts::{Names, Starts};

@@ -6,7 +6,7 @@ use crate::layout::{BAR, LEFT, ROW, are_steps_wide, column_place, is_shown};
 use crate::names::{Words, class_of};
 use crate::shapes::{Rect, begin_rect, write_rect};
 use crate::starts::Names;
-use ptk_timeline_segments::{Cell, Lane, Look, Marks, Row, Scale, Shade};
+use ptk_timeline_segments::{Cell, Lane, LaneRow, Look, Marks, Scale, Shade};
 use ptk_words::PartId;
 use std::io;
 use std::io::Write;
@@ -120,7 +120,7 @@ fn write_row<W: Write>(
     out: &mut W,
     scale: Scale,
     thread: Named<'_>,
-    row: &Row,
+    row: &LaneRow,
     marks: &[Marks],
     y: u32,
 ) -> io::Result<()> {
@@ -140,7 +140,7 @@ fn write_bars<W: Write>(
     out: &mut W,
     scale: Scale,
     thread: Named<'_>,
-    row: &Row,
+    row: &LaneRow,
     y: u32,
 ) -> io::Result<()> {
     let mut first = 0;

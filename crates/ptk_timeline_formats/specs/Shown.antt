@@ -10,7 +10,7 @@ use Rattle.ptk_timeline_formats.specs.declared.shown.Doing.{Doing}
 use Rattle.ptk_timeline_formats.specs.declared.shown.Doing.TheVariants.{Free, Running, Suspended, Ready, Blocked, Ended, Halted}
 use Rattle.ptk_timeline_formats.specs.declared.shown.Shown.{Shown}
 use Rattle.ptk_timeline_formats.specs.declared.step.Step.{Step}
-use Rattle.ptk_timeline_formats.specs.declared.change.Kept.{Kept}
+use Rattle.ptk_timeline_formats.specs.declared.change.ShownSince.{ShownSince}
 
 -- the step is the thread's
 abbrev pub is_step_of : Option Step → ℕ → Bool
@@ -34,6 +34,6 @@ shown_in is_stepping t s = record {
 }
 
 -- of the threads of a partition in a state, by number from 1, each is kept as it is shown while the step takes up its ticks
-abbrev pub AreShown : Option Step → Part → List Kept → Type 0
-AreShown step s threads = (place : ℕ) (default : Kept) → place < length threads → place < 32
+abbrev pub AreShown : Option Step → Part → List ShownSince → Type 0
+AreShown step s threads = (place : ℕ) (default : ShownSince) → place < length threads → place < 32
     → (slice_index_or threads place default).shown ≡ shown_in (is_step_of step (place + 1)) (place + 1) s

@@ -6,7 +6,7 @@ use ptk_words::ThreadNo;
 
 /// What is shown of a thread since a tick.
 #[derive(Clone, Copy)]
-pub(crate) struct Kept {
+pub(crate) struct ShownSince {
     pub(crate) shown: Shown,
     pub(crate) since: u64,
 }
@@ -25,7 +25,7 @@ pub(crate) enum Change<'a> {
     /// What is shown of a thread for the first time, and its pc where it starts.
     First(ThreadNo, &'a Shown, Option<u32>),
     /// What was shown of a thread, and what is shown now.
-    Next(ThreadNo, &'a Kept, &'a Shown),
+    Next(ThreadNo, &'a ShownSince, &'a Shown),
     /// The first thread's step has ended a wait of the second.
     Woken(ThreadNo, ThreadNo),
     /// This many ticks at the end of its window are lost.

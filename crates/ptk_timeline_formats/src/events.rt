@@ -1,6 +1,6 @@
 //! The Trace Event Format.
 
-use crate::change::{Change, Kept};
+use crate::change::{Change, ShownSince};
 use crate::shown::{Doing, Shown};
 use ptk_config::{Config, Section};
 use ptk_main_runs::{PartStatus, PutFault};
@@ -87,7 +87,7 @@ impl Event {
     }
 
     /// The slice of what was shown of a thread up to a tick, None of no ticks or of a free number.
-    fn thread(p: PartId, t: ThreadNo, kept: &Kept, tick: u64) -> Option<Event> {
+    fn thread(p: PartId, t: ThreadNo, kept: &ShownSince, tick: u64) -> Option<Event> {
         if tick <= kept.since || matches!(kept.shown.doing, Doing::Free) {
             return None;
         }

@@ -5,7 +5,7 @@ ghost use Rattle.ptk_words.specs.declared.TheConstants.{LAST_TICK};
 ghost use Rattle.ptk_main_runs.specs.World.{state_of};
 ghost use Rattle.ptk_timeline_formats.specs.Shown.{AreShown, is_step_of, shown_in};
 
-use crate::change::{Change, Kept};
+use crate::change::{Change, ShownSince};
 use crate::sheet::Sheet;
 use crate::shown::{Doing, Shown};
 use crate::step::Step;
@@ -20,7 +20,7 @@ pub(crate) fn first_threads(
     system: &System<'_>,
     p: PartId,
     threads: u32,
-) -> Result<Vec<Kept>, AllocError>
+) -> Result<Vec<ShownSince>, AllocError>
     requires { p < length system.now.config.sections }
 {
     let since = system.tick().ticks();
@@ -28,7 +28,7 @@ pub(crate) fn first_threads(
     for i in 0..threads.min(THREAD_LIMIT) {
         let t = ThreadNo::new(i as u8 + 1);
         let shown = Shown::of(system, p, t, &None);
-        kept.push(Kept { shown, since })?;
+        kept.push(ShownSince { shown, since })?;
     }
     Ok(kept)
 }
@@ -36,7 +36,7 @@ pub(crate) fn first_threads(
 /// Shows what the system shows of the threads of a partition from a tick on, while a step takes up its ticks, and
 /// writes what of it is new.
 pub(crate) fn show_threads<W: Write>(
-    threads: &mut [Kept],
+    threads: &mut [ShownSince],
     system: &System<'_>,
     p: PartId,
     step: &Option<Step>,
@@ -60,7 +60,7 @@ pub(crate) fn show_threads<W: Write>(
 
 /// What is shown of a thread of which this was shown, and writes it where it is new.
 fn show_thread<W: Write>(
-    kept: &Kept,
+    kept: &ShownSince,
     system: &System<'_>,
     p: PartId,
     t: ThreadNo,
@@ -68,7 +68,7 @@ fn show_thread<W: Write>(
     tick: u64,
     sheet: &mut Sheet<'_, '_>,
     out: &mut W,
-) -> Result<Kept, PutFault>
+) -> Result<ShownSince, PutFault>
     requires partition { p < length system.now.config.sections }
     requires at { sheet.old.at ≤ tick }
     requires to { tick ≤ sheet.old.to }
@@ -79,7 +79,7 @@ fn show_thread<W: Write>(
     let shown = Shown::of(system, p, t, step);
     if shown == kept.shown {
         let since = kept.since;
-        return Ok(Kept { shown, since });
+        return Ok(ShownSince { shown, since });
     }
     let change = if matches!(kept.shown.doing, Doing::Free) {
         Change::First(t, &shown, system.pc(p, t))
@@ -89,7 +89,7 @@ fn show_thread<W: Write>(
     let waker = waker_of(t, &kept.shown.doing, &shown.doing, step, tick);
     let woken = waker.map(|by| Change::Woken(by, t));
     sheet.put_each(p, tick, &[Some(change), woken], out)?;
-    Ok(Kept { shown, since: tick })
+    Ok(ShownSince { shown, since: tick })
 }
 
 /// The thread whose step has ended the wait of another, where the wait has ended and neither came its deadline nor was

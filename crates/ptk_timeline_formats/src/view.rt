@@ -5,7 +5,7 @@ ghost use Rattle.ptk_words.specs.declared.TheConstants.{LAST_TICK};
 ghost use Rattle.ptk_main_runs.specs.World.{state_of};
 ghost use Rattle.ptk_timeline_formats.specs.Shown.{AreShown};
 
-use crate::change::{Change, Kept};
+use crate::change::{Change, ShownSince};
 use crate::sheet::Sheet;
 use crate::shown::Shown;
 use crate::step::Step;
@@ -21,7 +21,7 @@ use std::io::Write;
 pub(crate) struct PartView {
     status: PartStatus,
     runner: Option<ThreadNo>,
-    threads: Vec<Kept>,
+    threads: Vec<ShownSince>,
     step: Option<Step>,
     steps: u64,
     lost: u64,

@@ -2,7 +2,7 @@
 use Rattle.std.proofs.Common.{◌≡◌, ℕ, ◌<◌, ◌≤◌, min, max, nat_lt, Bool, Option, if◌then◌else◌, ap, ◌∙◌, arith}
 use Rattle.std.proofs.lemmas.Bool.{le-ltb, lt-ltb}
 use Rattle.ptk_timeline_segments.specs.declared.look.Look.{Look}
-use Rattle.ptk_timeline_segments.specs.declared.row.Row.{Row}
+use Rattle.ptk_timeline_segments.specs.declared.row.LaneRow.{LaneRow}
 use Rattle.ptk_timeline_segments.specs.declared.scale.Scale.{Scale}
 use Rattle.ptk_timeline_segments.specs.declared.step.Busy.{Busy}
 use Rattle.ptk_timeline_segments.specs.Histories.{stepping}
@@ -10,12 +10,12 @@ use Rattle.ptk_timeline_segments.specs.Lanes.{GoesOn, is_busy}
 use Rattle.ptk_timeline_segments.specs.Rows.{HoldsOver, IsRowOf}
 
 -- a row after it held a look
-pub record Held (look : Look) (tick : ℕ) (old new : Row) : Type 0 where
+pub record Held (look : Look) (tick : ℕ) (old new : LaneRow) : Type 0 where
   pub scale : new.scale ≡ old.scale
   pub counted : new.counted ≡ max old.counted (min tick old.scale.to)
   pub right : (f : ℕ → Look) → IsRowOf f old → HoldsOver f look old.counted new.counted → IsRowOf f new
 
-pub held_twice : (look : Look) (busy : Option Busy) (t until stepped : ℕ) (old mid new : Row) → ((tick : ℕ) → is_busy busy t tick ≡ nat_lt tick stepped)
+pub held_twice : (look : Look) (busy : Option Busy) (t until stepped : ℕ) (old mid new : LaneRow) → ((tick : ℕ) → is_busy busy t tick ≡ nat_lt tick stepped)
     → Held (stepping look) (min stepped until) old mid → Held look until mid new → GoesOn look busy t until old new
 held_twice look busy t until stepped old mid new told first second = record {
   scale = second.scale ∙ first.scale;

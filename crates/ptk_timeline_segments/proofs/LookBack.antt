@@ -7,8 +7,8 @@ use Rattle.ptk_words.specs.declared.threads.Wait.TheVariants.{InputWait, SleepWa
 use Rattle.ptk_system.specs.declared.activity.Activity.{Activity}
 use Rattle.ptk_system.specs.declared.activity.Activity.TheVariants.{Free, Running, Ready, Blocked, Ended, Halted}
 use Rattle.ptk_timeline_segments.specs.declared.look.Look.{Look}
-use Rattle.ptk_timeline_segments.specs.declared.numbers.Parts.{Parts}
-use Rattle.ptk_timeline_segments.specs.LookNumbers.{bit_of, numbers_of, owner_kind, owner_number, parts, parts_of}
+use Rattle.ptk_timeline_segments.specs.declared.numbers.WaitNumbers.{WaitNumbers}
+use Rattle.ptk_timeline_segments.specs.LookNumbers.{bit_of, numbers_of, numbers_of_activity, owner_kind, owner_number, wait_numbers}
 use Rattle.ptk_timeline_segments.specs.Shades.{place_of, shade_of}
 
 -- ---- back from numbers
@@ -17,7 +17,7 @@ abbrev given : ℕ → ℕ → Option ℕ
 given zero n = None
 given (suc k) n = Some n
 
-abbrev activity_back : ℕ → Parts → Activity
+abbrev activity_back : ℕ → WaitNumbers → Activity
 activity_back zero p = Free
 activity_back (suc zero) p = Running
 activity_back (suc (suc zero)) p = Ready
@@ -41,7 +41,7 @@ no_look = record { activity = Free; owner = None; raised = None }
 
 abbrev look_back : List ℕ → Look
 look_back (place ∷ first ∷ second ∷ more ∷ last ∷ kind ∷ thread ∷ some ∷ level ∷ []) =
-    record { activity = activity_back place (parts first second more last); owner = owner_back kind thread; raised = given some level }
+    record { activity = activity_back place (wait_numbers first second more last); owner = owner_back kind thread; raised = given some level }
 look_back numbers = no_look
 
 -- ---- each look comes back
@@ -50,7 +50,7 @@ given_same : (o : Option ℕ) → given (bit_of (is_some o)) (unwrap_or o 0) ≡
 given_same None = refl
 given_same (Some n) = refl
 
-activity_same : (a : Activity) → activity_back (place_of (shade_of a)) (parts_of a) ≡ a
+activity_same : (a : Activity) → activity_back (place_of (shade_of a)) (numbers_of_activity a) ≡ a
 activity_same Free = refl
 activity_same Running = refl
 activity_same Ready = refl

@@ -17,7 +17,7 @@ use Rattle.ptk_system.proofs.Going.{undecided}
 use Rattle.ptk_timeline_segments.specs.declared.look.Look.{Look}
 use Rattle.ptk_timeline_segments.specs.declared.lane.Lane.{Lane}
 use Rattle.ptk_timeline_segments.specs.declared.marks.Marked.{Marked}
-use Rattle.ptk_timeline_segments.specs.declared.row.Row.{Row}
+use Rattle.ptk_timeline_segments.specs.declared.row.LaneRow.{LaneRow}
 use Rattle.ptk_timeline_segments.specs.declared.scale.Scale.{Scale}
 use Rattle.ptk_timeline_segments.specs.Histories.{history, is_begun, is_step_of, is_stepping, last_begun, look_at, look_in, owner_for, raised_of, step_end, stepping}
 use Rattle.ptk_timeline_segments.specs.Lanes.{GoesOn, IsDue, IsLaneOf, IsThreadsRow}
@@ -114,7 +114,7 @@ stepping_by false going l runs = refl
 pub lane_passes : (world : World) (p from : ℕ) (old new : Lane) → p < length world.config.sections → IsLaneOf (own_ticks world.config.plan p) (history world p) old → 1 < old.scale.each
     → from ≤ old.due → old.due < world.tick → world.tick ≤ old.scale.to → GoesOnAsIs (at_tick from world) p world.tick
     → new.scale ≡ old.scale → new.marked ≡ old.marked → length new.rows.items ≡ length old.rows.items → new.steps ≡ (state_of world p).account.steps → IsDue world p old.scale new.due
-    → ((place : ℕ) (default : Row) → place < length old.rows.items → place < 32
+    → ((place : ℕ) (default : LaneRow) → place < length old.rows.items → place < 32
     → GoesOn (look_in (place + 1) (state_of world p).part) None (place + 1) new.due (get_or old.rows.items place default) (get_or new.rows.items place default))
     → (world.tick ≤ new.due) × IsLaneOf (own_ticks world.config.plan p) (history world p) new
 lane_passes world p from old new part is wide low before within steady scale marked count steps due goes = (
@@ -239,7 +239,7 @@ lane_passes world p from old new part is wide low before within steady scale mar
         by (inr after) (inl until) = end_passes begun until sooner (states (begun + 1)).account.next refl
         by (inr after) (inr late) = absurd (none_late begun is_one.2 late (omega (arith, is_one.0, is_one.1)))
 
-    rows : (place : ℕ) (default : Row) → place < length new.rows.items → IsThreadsRow ticks states new (place + 1) (get_or new.rows.items place default)
+    rows : (place : ℕ) (default : LaneRow) → place < length new.rows.items → IsThreadsRow ticks states new (place + 1) (get_or new.rows.items place default)
     rows place default lt = row (is.rows place default inside) (goes place default inside (omega (arith, inside, is.few)))
       where
         inside : place < length old.rows.items

@@ -9,7 +9,7 @@ use Rattle.ptk_system.specs.World.{World, at_tick}
 use Rattle.ptk_timeline_segments.specs.declared.lane.Lane.{Lane}
 use Rattle.ptk_timeline_segments.specs.declared.look.Look.{Look}
 use Rattle.ptk_timeline_segments.specs.declared.recording.Recording.{Recording}
-use Rattle.ptk_timeline_segments.specs.declared.row.Row.{Row}
+use Rattle.ptk_timeline_segments.specs.declared.row.LaneRow.{LaneRow}
 use Rattle.ptk_timeline_segments.specs.declared.scale.Scale.{Scale}
 use Rattle.ptk_timeline_segments.specs.Cells.{IsCellOf}
 use Rattle.ptk_timeline_segments.specs.Columns.{start_of}
@@ -136,7 +136,7 @@ passed_told first before now scale own tick lanes new same begun goes wide withi
 -- ---- in the end
 
 -- a row that has counted to the end has filled its columns
-filled_all : (row : Row) (column : ℕ) → row.counted ≡ row.scale.to → start_of row.scale column < row.scale.to → column < row.filled
+filled_all : (row : LaneRow) (column : ℕ) → row.counted ≡ row.scale.to → start_of row.scale column < row.scale.to → column < row.filled
 filled_all row column counted some = by (cases_lt column row.filled)
   where
     by : (column < row.filled) ⊎ (row.filled ≤ column) → column < row.filled
@@ -145,7 +145,7 @@ filled_all row column counted some = by (cases_lt column row.filled)
         let all : start_of row.scale row.filled ≡ row.scale.to = row.closed (omega (arith, counted)) in
         absurd (omega (arith, mul-le-mul_right row.scale.each past, all, some))
 
-row_tells : (look : ℕ → Look) (scale : Scale) (row : Row) → row.scale ≡ scale → row.counted ≡ scale.to → IsRowOf look row → TellsLooks look scale row
+row_tells : (look : ℕ → Look) (scale : Scale) (row : LaneRow) → row.scale ≡ scale → row.counted ≡ scale.to → IsRowOf look row → TellsLooks look scale row
 row_tells look scale row same counted is = record {
   columns = λ column default some.
       subst (λ (s : Scale). IsCellOf look (start_of s column) (start_of s (column + 1)) (get_or row.cells.items column default)) same
@@ -173,7 +173,7 @@ tells_of world recording are = record {
         marks_told (history world p) recording.scale (get_or recording.lanes.items p lane) one scale is.scaled (done p lane part is)
         (is.marks (ap (λ (s : Scale). s.each) scale ∙ one))
 
-    row : (p place : ℕ) (lane : Lane) (default : Row) → p < length recording.lanes.items → IsLaneOf (own_ticks world.config.plan p) (history world p) (get_or recording.lanes.items p lane)
+    row : (p place : ℕ) (lane : Lane) (default : LaneRow) → p < length recording.lanes.items → IsLaneOf (own_ticks world.config.plan p) (history world p) (get_or recording.lanes.items p lane)
         → IsThreadsRow (own_ticks world.config.plan p) (history world p) (get_or recording.lanes.items p lane) (place + 1) (get_or (get_or recording.lanes.items p lane).rows.items place default)
         → TellsLooks (look_at (own_ticks world.config.plan p) (history world p) recording.scale.from (place + 1)) recording.scale (get_or (get_or recording.lanes.items p lane).rows.items place default)
     row p place lane default part is told =

@@ -9,7 +9,7 @@ use Rattle.ptk_words.specs.Faults.{is_active}
 use Rattle.ptk_system.specs.World.{World, but_next, state_of}
 use Rattle.ptk_timeline_segments.specs.declared.look.Look.{Look}
 use Rattle.ptk_timeline_segments.specs.declared.lane.Lane.{Lane}
-use Rattle.ptk_timeline_segments.specs.declared.row.Row.{Row}
+use Rattle.ptk_timeline_segments.specs.declared.row.LaneRow.{LaneRow}
 use Rattle.ptk_timeline_segments.specs.declared.scale.Scale.{Scale}
 use Rattle.ptk_timeline_segments.specs.Histories.{history, is_begun, is_step_of, is_stepping, last_begun, look_at, look_in, sooner_of, step_end, stepping}
 use Rattle.ptk_timeline_segments.specs.Lanes.{GoesOn, IsDue, IsLaneOf, IsThreadsRow, StartsAs, busy_by, busy_of, is_busy}
@@ -122,7 +122,7 @@ states_stay world p due scale is = record { same = λ k from to. is.stays k from
 -- from the tick of one change to that of the next
 pub lane_on : (world : World) (p tick : ℕ) (old new : Lane) → IsLaneOf (own_ticks world.config.plan p) (history world p) old → world.tick ≡ tick + 1 → tick ≡ old.due → tick < old.scale.to
     → new.scale ≡ old.scale → length new.rows.items ≡ length old.rows.items → new.steps ≡ (state_of world p).account.steps → IsDue world p old.scale new.due
-    → ((place : ℕ) (default : Row) → place < length old.rows.items → place < 32
+    → ((place : ℕ) (default : LaneRow) → place < length old.rows.items → place < 32
     → GoesOn (look_in (place + 1) (state_of world p).part) (busy_of (own_ticks world.config.plan p) tick old.steps (state_of world p)) (place + 1) new.due
     (get_or old.rows.items place default) (get_or new.rows.items place default))
     → (is_step : Bool) → is_step ≡ nat_lt old.steps (state_of world p).account.steps → IsMarkedBy tick is_step (state_of world p) old.marked new.marked
@@ -199,7 +199,7 @@ lane_on world p tick old new is at here before scale count steps due goes is_ste
         (subst (λ (k : ℕ). IsMarkedTo states k old.marked) (sym here) (is.marks one))
         (subst (λ (s : State). IsMarkedBy tick is_step s old.marked new.marked) now marked)
 
-    rows : (place : ℕ) (default : Row) → place < length new.rows.items → IsThreadsRow ticks states new (place + 1) (get_or new.rows.items place default)
+    rows : (place : ℕ) (default : LaneRow) → place < length new.rows.items → IsThreadsRow ticks states new (place + 1) (get_or new.rows.items place default)
     rows place default lt = row (is.rows place default within) (goes place default within (omega (arith, within, is.few)))
       where
         within : place < length old.rows.items
@@ -222,7 +222,7 @@ lane_on world p tick old new is at here before scale count steps due goes is_ste
 
 -- from the first tick to that of the first change
 pub lane_begins : (world : World) (p : ℕ) (lane : Lane) → world.tick ≡ lane.scale.from → length lane.rows.items ≤ 32 → lane.steps ≡ (state_of world p).account.steps → IsDue world p lane.scale lane.due
-    → ((place : ℕ) (default : Row) → place < length lane.rows.items → StartsAs lane.scale (look_in (place + 1) (state_of world p).part) lane.due (get_or lane.rows.items place default))
+    → ((place : ℕ) (default : LaneRow) → place < length lane.rows.items → StartsAs lane.scale (look_in (place + 1) (state_of world p).part) lane.due (get_or lane.rows.items place default))
     → BeginsAs lane.scale (state_of world p) lane.marked
     → IsLaneOf (own_ticks world.config.plan p) (history world p) lane
 lane_begins world p lane at few steps due starts begins = record {
@@ -261,7 +261,7 @@ lane_begins world p lane at few steps due starts begins = record {
         ap (λ (o : Option ℕ). if is_stepping ticks states (place + 1) n o then stepping (look_in (place + 1) (states (n + 1)).part) else look_in (place + 1) (states (n + 1)).part) (none_so_far (n + 1) (omega (arith, high)))
         ∙ look_same (place + 1) (states (n + 1)) (state_of world p) (due.stays (n + 1) (omega (arith, low, at)) (omega (arith, high)))
 
-    row : (place : ℕ) (row : Row) → StartsAs lane.scale (look_in (place + 1) (state_of world p).part) lane.due row → IsThreadsRow ticks states lane (place + 1) row
+    row : (place : ℕ) (row : LaneRow) → StartsAs lane.scale (look_in (place + 1) (state_of world p).part) lane.due row → IsThreadsRow ticks states lane (place + 1) row
     row place it is =
         let order : lane.scale.from ≤ lane.scale.to = lane.scale.order in
         let reached : it.counted ≡ lane.due = omega (arith, is.counted, due.within, later, at, order) in

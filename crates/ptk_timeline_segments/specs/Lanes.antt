@@ -6,7 +6,7 @@ use Rattle.ptk_words_model.specs.State.{State}
 use Rattle.ptk_system.specs.Going.{GoesOnAsIs}
 use Rattle.ptk_system.specs.World.{World, at_tick, but_next, state_of}
 use Rattle.ptk_timeline_segments.specs.declared.look.Look.{Look}
-use Rattle.ptk_timeline_segments.specs.declared.row.Row.{Row}
+use Rattle.ptk_timeline_segments.specs.declared.row.LaneRow.{LaneRow}
 use Rattle.ptk_timeline_segments.specs.declared.scale.Scale.{Scale}
 use Rattle.ptk_timeline_segments.specs.declared.step.Busy.{Busy}
 use Rattle.ptk_timeline_segments.specs.declared.lane.Lane.{Lane}
@@ -29,13 +29,13 @@ is_busy None t tick = false
 is_busy (Some busy) t tick = (busy.thread == t) && nat_lt tick busy.until
 
 -- a thread's row goes on to a tick: it runs while the step keeps it running, and has this look at the other ticks
-pub record GoesOn (look : Look) (busy : Option Busy) (t until : ℕ) (old new : Row) : Type 0 where
+pub record GoesOn (look : Look) (busy : Option Busy) (t until : ℕ) (old new : LaneRow) : Type 0 where
   pub scale : new.scale ≡ old.scale
   pub counted : new.counted ≡ max old.counted (min until old.scale.to)
   pub right : (f : ℕ → Look) → IsRowOf f old → ((k : ℕ) → old.counted ≤ k → k < new.counted → f k ≡ (if is_busy busy t k then stepping look else look)) → IsRowOf f new
 
 -- a new row has counted to a tick, and tells of looks that are this one at each tick up to there
-pub record StartsAs (scale : Scale) (look : Look) (until : ℕ) (row : Row) : Type 0 where
+pub record StartsAs (scale : Scale) (look : Look) (until : ℕ) (row : LaneRow) : Type 0 where
   pub same : row.scale ≡ scale
   pub counted : row.counted ≡ max scale.from (min until scale.to)
   pub right : (f : ℕ → Look) → HoldsOver f look scale.from row.counted → IsRowOf f row
@@ -49,7 +49,7 @@ pub record IsDue (world : World) (p : ℕ) (scale : Scale) (due : ℕ) : Type 0 
   pub next : (k : ℕ) → world.tick ≤ k → k ≤ scale.to → ((j : ℕ) → (state_of world p).account.next ≡ Some j → k ≤ j) → k ≤ due
 
 -- the row tells of the looks of a thread up to the lane's tick
-pub record IsThreadsRow (ticks : OwnTicks) (states : ℕ → State) (lane : Lane) (t : ℕ) (row : Row) : Type 0 where
+pub record IsThreadsRow (ticks : OwnTicks) (states : ℕ → State) (lane : Lane) (t : ℕ) (row : LaneRow) : Type 0 where
   pub scale : row.scale ≡ lane.scale
   pub counted : row.counted ≡ lane.due
   pub right : IsRowOf (look_at ticks states lane.scale.from t) row
@@ -61,7 +61,7 @@ pub record IsLaneOf (ticks : OwnTicks) (states : ℕ → State) (lane : Lane) : 
   pub few : length lane.rows.items ≤ 32
   pub scaled : lane.marked.scale ≡ lane.scale
   pub marks : lane.scale.each ≡ 1 → IsMarkedTo states lane.due lane.marked
-  pub rows : (place : ℕ) (default : Row) → place < length lane.rows.items → IsThreadsRow ticks states lane (place + 1) (slice_index_or lane.rows.items place default)
+  pub rows : (place : ℕ) (default : LaneRow) → place < length lane.rows.items → IsThreadsRow ticks states lane (place + 1) (slice_index_or lane.rows.items place default)
   pub ended : (begun : ℕ) → last_begun states lane.scale.from (lane.due - lane.scale.from) ≡ Some begun → lane.due < lane.scale.to → step_end ticks begun (states (begun + 1)) ≤ lane.due
   pub steps : lane.steps ≡ (states lane.due).account.steps
 

@@ -9,7 +9,7 @@ use Rattle.ptk_timeline_segments.specs.declared.lane.Lane.{Lane}
 use Rattle.ptk_timeline_segments.specs.declared.look.Look.{Look}
 use Rattle.ptk_timeline_segments.specs.declared.marks.Marks.{Marks}
 use Rattle.ptk_timeline_segments.specs.declared.recording.Recording.{Recording}
-use Rattle.ptk_timeline_segments.specs.declared.row.Row.{Row}
+use Rattle.ptk_timeline_segments.specs.declared.row.LaneRow.{LaneRow}
 use Rattle.ptk_timeline_segments.specs.declared.scale.Scale.{Scale}
 use Rattle.ptk_timeline_segments.specs.declared.tally.Cell.{Cell}
 use Rattle.ptk_timeline_segments.specs.Cells.{IsCellOf}
@@ -26,7 +26,7 @@ pub record AreLanesOf (world : World) (scale : Scale) (tick : ℕ) (lanes : List
   pub tells : (p : ℕ) (default : Lane) → p < length lanes → IsLaneOf (own_ticks world.config.plan p) (history world p) (slice_index_or lanes p default)
 
 -- each column of the row has the look of a thread at the column's ticks: that of one tick this tick's, that of many the one that held longest (own)
-pub record TellsLooks (look : ℕ → Look) (scale : Scale) (row : Row) : Type 0 where
+pub record TellsLooks (look : ℕ → Look) (scale : Scale) (row : LaneRow) : Type 0 where
   pub columns : (column : ℕ) (default : Cell) → start_of scale column < scale.to
       → IsCellOf look (start_of scale column) (start_of scale (column + 1)) (slice_index_or row.cells.items column default)
 
@@ -38,7 +38,7 @@ pub record TellsMarks (states : ℕ → State) (scale : Scale) (lane : Lane) : T
 -- each row of each lane tells of its thread, by partition and thread number, and in columns of one tick each lane of what came
 pub record TellsOf (world : World) (recording : Recording) : Type 0 where
   pub parts : length recording.lanes.items ≡ length world.config.sections
-  pub rows : (p place : ℕ) (lane : Lane) (default : Row) → p < length recording.lanes.items
+  pub rows : (p place : ℕ) (lane : Lane) (default : LaneRow) → p < length recording.lanes.items
       → place < length (slice_index_or recording.lanes.items p lane).rows.items
       → TellsLooks (look_at (own_ticks world.config.plan p) (history world p) recording.scale.from (place + 1)) recording.scale
       (slice_index_or (slice_index_or recording.lanes.items p lane).rows.items place default)

@@ -4,13 +4,13 @@ ghost use Rattle.std.specs.Prelude.{◌≡◌, ℕ, ◌+◌, ◌<◌, ◌≤◌,
 ghost use Rattle.ptk_words.specs.declared.TheConstants.{LAST_TICK};
 ghost use Rattle.ptk_words_windows.specs.Windows.{own_ticks};
 ghost use Rattle.ptk_system.specs.World.{state_of};
-ghost use Rattle.ptk_timeline_segments.specs.declared.row.Row.{Row as AnyRow};
+ghost use Rattle.ptk_timeline_segments.specs.declared.row.LaneRow.{LaneRow as AnyRow};
 ghost use Rattle.ptk_timeline_segments.specs.Histories.{history, look_in};
 ghost use Rattle.ptk_timeline_segments.specs.Lanes.{GoesOn, IsDue, IsLaneOf, IsPassed, IsShown, StartsAs};
 
 use crate::look::Look;
 use crate::marks::{Marked, Marks};
-use crate::row::Row;
+use crate::row::LaneRow;
 use crate::scale::Scale;
 use crate::step::{Busy, step_at};
 use ptk_system::System;
@@ -25,7 +25,7 @@ const THREADS: u32 = 32;
 #[derive(Drop)]
 pub struct Lane {
     scale: Scale,
-    rows: Vec<Row>,
+    rows: Vec<LaneRow>,
     marked: Marked,
     due: u64,
     steps: u64,
@@ -57,7 +57,7 @@ impl Lane {
     }
 
     /// The rows, by thread number from 1.
-    pub fn rows(&self) -> &[Row]
+    pub fn rows(&self) -> &[LaneRow]
         ensures { result.now ≡ self.now.rows.items }
     {
         self.rows.as_slice()
@@ -124,7 +124,7 @@ impl Lane {
 }
 
 /// The rows of a partition's threads go on to a tick.
-fn go_on_all(rows: &mut [Row], system: &System<'_>, p: PartId, busy: &Option<Busy>, until: u64)
+fn go_on_all(rows: &mut [LaneRow], system: &System<'_>, p: PartId, busy: &Option<Busy>, until: u64)
     requires { p < length system.now.config.sections }
     ensures { (place : ℕ) (default : AnyRow) → place < length rows.old → place < 32
         → GoesOn (look_in (place + 1) (state_of system.now p).part) busy.now (place + 1) until (slice_index_or rows.old place default) (slice_index_or rows.new place default) }
@@ -136,7 +136,7 @@ fn go_on_all(rows: &mut [Row], system: &System<'_>, p: PartId, busy: &Option<Bus
 }
 
 /// A thread's row goes on to a tick. The thread of a step that takes up its ticks runs for so long before.
-fn go_on(row: &mut Row, look: &Look, t: ThreadNo, busy: &Option<Busy>, until: u64)
+fn go_on(row: &mut LaneRow, look: &Look, t: ThreadNo, busy: &Option<Busy>, until: u64)
     ensures { GoesOn look.now busy.now t until row.old row.new }
 {
     let stepped = Busy::until_for(busy, t).min(until);
@@ -161,7 +161,7 @@ fn first_rows(
     p: PartId,
     threads: u32,
     until: u64,
-) -> Result<Vec<Row>, AllocError>
+) -> Result<Vec<LaneRow>, AllocError>
     requires { p < length system.now.config.sections }
     ensures few { IfOk result (λ rows. length rows.items ≤ 32) }
     ensures rows { IfOk result (λ rows. (place : ℕ) (default : AnyRow) → place < length rows.items
@@ -176,10 +176,10 @@ fn first_rows(
 }
 
 /// A row that begins with a look, up to a tick.
-fn first_row(alloc: Global, scale: Scale, look: &Look, until: u64) -> Result<Row, AllocError>
+fn first_row(alloc: Global, scale: Scale, look: &Look, until: u64) -> Result<LaneRow, AllocError>
     ensures { IfOk result (StartsAs scale look.now until) }
 {
-    let mut row = Row::new(alloc, scale)?;
+    let mut row = LaneRow::new(alloc, scale)?;
     row.hold(look, until);
     Ok(row)
 }

@@ -12,7 +12,7 @@
 //!   changes (`IsPassed`).
 //! - Where a column is a tick, its marks are all that the decisions of the picture make there: a step begins, input is
 //!   lost, the partition halts, and each tick that is lost (`tells`: `TellsMarks`, `marks_at`).
-//! - `Row::bar_from` returns the column behind a bar, which is all columns of one look, owner and raised priority
+//! - `LaneRow::bar_from` returns the column behind a bar, which is all columns of one look, owner and raised priority
 //!   included, and is as long as possible on both sides (`bar`: `IsBar`; `next`).
 //! - `next_window` returns the partition's next window, tick by tick as the plan has it there, and none only where no
 //!   tick is the partition's (`IsNextWindow`, `AreOthers`).
@@ -40,7 +40,7 @@ pub use look::{Look, Shade};
 pub use marks::Marks;
 pub use ptk_system::{Activity, Files, PartStatus, System};
 pub use recording::Recording;
-pub use row::Row;
+pub use row::LaneRow;
 pub use scale::Scale;
 pub use tally::Cell;
 pub use windows::{Span, next_window};

@@ -1,7 +1,7 @@
 //! A look as numbers, by which two looks are compared: each look has others.
 
 ghost use Rattle.std.specs.Prelude.{◌≡◌, unwrap_or};
-ghost use Rattle.ptk_timeline_segments.specs.LookNumbers.{bit_of, numbers_of, owner_kind, owner_number, parts_of, parts_of_wait};
+ghost use Rattle.ptk_timeline_segments.specs.LookNumbers.{bit_of, numbers_of, numbers_of_activity, numbers_of_wait, owner_kind, owner_number};
 
 use crate::look::Look;
 use ptk_system::Activity;
@@ -12,7 +12,7 @@ const NUMBERS: usize = 9;
 
 /// What a thread waits for, as numbers, zeros where it does not wait.
 #[derive(Clone, Copy)]
-pub(crate) struct Parts {
+pub(crate) struct WaitNumbers {
     first: u64,
     second: u64,
     more: u64,
@@ -23,13 +23,13 @@ pub(crate) struct Parts {
 pub(crate) fn numbers_of(look: &Look) -> [u64; NUMBERS]
     ensures { result ≡ numbers_of look.now }
 {
-    let parts = parts_of(&look.activity);
+    let wait = numbers_of_activity(&look.activity);
     [
         look.shade().place() as u64,
-        parts.first,
-        parts.second,
-        parts.more,
-        parts.last,
+        wait.first,
+        wait.second,
+        wait.more,
+        wait.last,
         owner_kind(&look.owner),
         owner_number(&look.owner),
         bit_of(look.raised.is_some()),
@@ -38,34 +38,34 @@ pub(crate) fn numbers_of(look: &Look) -> [u64; NUMBERS]
 }
 
 /// What a thread waits for, as numbers.
-fn parts_of(activity: &Activity) -> Parts
-    ensures { result ≡ parts_of activity.now }
+fn numbers_of_activity(activity: &Activity) -> WaitNumbers
+    ensures { result ≡ numbers_of_activity activity.now }
 {
     match activity {
-        Activity::Blocked(wait) => parts_of_wait(wait),
+        Activity::Blocked(wait) => numbers_of_wait(wait),
         Activity::Free | Activity::Running | Activity::Ready | Activity::Ended | Activity::Halted =>
-            parts_with(0, 0, 0, 0),
+            wait_numbers(0, 0, 0, 0),
     }
 }
 
 /// A wait as numbers.
-fn parts_of_wait(wait: &Wait) -> Parts
-    ensures { result ≡ parts_of_wait wait.now }
+fn numbers_of_wait(wait: &Wait) -> WaitNumbers
+    ensures { result ≡ numbers_of_wait wait.now }
 {
     match wait {
-        Wait::InputWait => parts_with(0, 0, 0, 0),
-        Wait::SleepWait(tick) => parts_with(tick.ticks(), 0, 0, 0),
-        Wait::JoinWait(t) => parts_with(u64::from(t.number()), 0, 0, 0),
+        Wait::InputWait => wait_numbers(0, 0, 0, 0),
+        Wait::SleepWait(tick) => wait_numbers(tick.ticks(), 0, 0, 0),
+        Wait::JoinWait(t) => wait_numbers(u64::from(t.number()), 0, 0, 0),
         Wait::MutexWait(m, end) => {
-            parts_with(u64::from(m.number()), 0, bit_of(end.is_some()), end_of(end))
+            wait_numbers(u64::from(m.number()), 0, bit_of(end.is_some()), end_of(end))
         }
-        Wait::ConditionWait(c, m, end) => parts_with(
+        Wait::ConditionWait(c, m, end) => wait_numbers(
             u64::from(c.number()),
             u64::from(m.number()),
             bit_of(end.is_some()),
             end_of(end),
         ),
-        Wait::RelockWait(m, reply) => parts_with(
+        Wait::RelockWait(m, reply) => wait_numbers(
             u64::from(m.number()),
             0,
             bit_of(reply.is_some()),
@@ -75,10 +75,10 @@ fn parts_of_wait(wait: &Wait) -> Parts
 }
 
 /// These numbers.
-fn parts_with(first: u64, second: u64, more: u64, last: u64) -> Parts
+fn wait_numbers(first: u64, second: u64, more: u64, last: u64) -> WaitNumbers
     ensures { result ≡ record { first = first; second = second; more = more; last = last } }
 {
-    Parts {
+    WaitNumbers {
         first,
         second,
         more,

@@ -12,7 +12,7 @@ use std::alloc::{AllocError, Global};
 /// A thread's looks from the first tick on: its columns, those before a place with all their ticks, what is known of
 /// the one at that place, and the tick up to which all is counted.
 #[derive(Drop)]
-pub struct Row {
+pub struct LaneRow {
     scale: Scale,
     cells: Vec<Cell>,
     filled: usize,
@@ -25,17 +25,17 @@ pub struct Row {
     ghost closed: { scale.to ≤ counted → start_of scale filled ≡ scale.to },
 }
 
-impl Row {
+impl LaneRow {
     ghost use Rattle.ptk_timeline_segments.specs.Bars.{IsBar, IsBegun};
     ghost use Rattle.ptk_timeline_segments.specs.Rows.{HoldsOver, IsRowOf};
 
     /// A row of no ticks yet, with room for all columns. An error where memory ran out. No other call takes memory.
-    pub(crate) fn new(alloc: Global, scale: Scale) -> Result<Row, AllocError>
+    pub(crate) fn new(alloc: Global, scale: Scale) -> Result<LaneRow, AllocError>
         ensures scale { IfOk result (λ row. row.scale ≡ scale) }
         ensures counted { IfOk result (λ row. row.counted ≡ scale.from) }
         ensures right { IfOk result (λ row. (look : ℕ → AnyLook) → IsRowOf look row) }
     {
-        Ok(Row {
+        Ok(LaneRow {
             scale,
             cells: vec![in alloc; Cell::empty(); scale.columns()]?,
             filled: 0,

@@ -1,7 +1,7 @@
 //! Segments of a recording, and whether they are as wanted.
 
 use ptk_main_guests::{Config, guest_of};
-use ptk_timeline::{Cell, Files, Recording, Row, Scale, Shade, System};
+use ptk_timeline::{Cell, Files, LaneRow, Recording, Scale, Shade, System};
 use ptk_words::{LAST_TICK, Tick};
 use std::alloc::Global;
 
@@ -39,7 +39,7 @@ pub(super) fn recorded(
 }
 
 /// Whether a row, whose columns are a tick each, has the segment.
-fn has_segment(row: &Row, scale: Scale, segment: Segment) -> bool {
+fn has_segment(row: &LaneRow, scale: Scale, segment: Segment) -> bool {
     let Segment(_, from, to, shade) = segment;
     for (column, cell) in row.cells().iter().enumerate() {
         let tick = scale.start_of(column);
@@ -92,7 +92,7 @@ fn sums_up(column: &Cell, cells: &[Cell]) -> bool {
 }
 
 /// Whether a row's columns agree with those of a row of the same ticks, whose columns are a tick each.
-fn row_sums_up(wide: &Row, each: usize, narrow: &Row) -> bool {
+fn row_sums_up(wide: &LaneRow, each: usize, narrow: &LaneRow) -> bool {
     let cells = narrow.cells();
     for (place, column) in wide.cells().iter().enumerate() {
         let from = place.saturating_mul(each).min(cells.len());

@@ -1,7 +1,7 @@
 use Rattle.std.proofs.Common.{◌≡◌, ℕ, ◌+◌, ◌<◌, length, refl, subst, sym, ◌∙◌, ap, arith}
 use Rattle.ptk_system.specs.World.{state_of}
 use Rattle.ptk_timeline_segments.specs.declared.look.Look.{Look}
-use Rattle.ptk_timeline_segments.specs.declared.row.Row.{Row}
+use Rattle.ptk_timeline_segments.specs.declared.row.LaneRow.{LaneRow}
 use Rattle.ptk_timeline_segments.specs.Histories.{look_in}
 use Rattle.ptk_timeline_segments.specs.Lanes.{GoesOn}
 use Rattle.ptk_timeline_segments.proofs.Lists.{on_more}
@@ -21,7 +21,7 @@ loop-i-preserved c =
     c.loop-i.i c.args.rows.now c.loop-i.rows c.index-rows-i.result c.go_on.new.row within same c.loop-i.invariant c.index-rows-i.is
     (subst (λ (l : Look). GoesOn l c.args.busy.now (c.loop-i.i + 1) c.args.until c.index-rows-i.result c.go_on.new.row) look
     (subst (λ (t : ℕ). GoesOn c.of.result c.args.busy.now t c.args.until c.index-rows-i.result c.go_on.new.row) number
-    (subst (λ (r : Row). GoesOn c.of.result c.args.busy.now c.new-t.result c.args.until r c.go_on.new.row) (sym c.index-rows-i.is) c.go_on.ensures)))
+    (subst (λ (r : LaneRow). GoesOn c.of.result c.args.busy.now c.new-t.result c.args.until r c.go_on.new.row) (sym c.index-rows-i.is) c.go_on.ensures)))
 
 pub returns : goal.returns
 returns c = λ place default lt few. c.loop-i.invariant.before place default lt (omega (arith, lt, few))

@@ -1,7 +1,7 @@
 use Rattle.std.proofs.Common.{◌≡◌, ℕ, subst, arith}
 use Rattle.ptk_timeline_segments.specs.Columns.{start_of}
 use Rattle.ptk_timeline_segments.specs.Tallies.{IsTallyOf}
-use Rattle.ptk_timeline_segments.proofs.row.Row.new.Goals as goal
+use Rattle.ptk_timeline_segments.proofs.row.LaneRow.new.Goals as goal
 
 pub returns-clause-right : goal.returns-clause-right
 returns-clause-right c = λ look.

@@ -1,6 +1,6 @@
 use Rattle.std.proofs.Common.{◌<◌, length, arith}
 use Rattle.ptk_timeline_segments.proofs.Bars.{alike_more}
-use Rattle.ptk_timeline_segments.proofs.row.Row.bar_from.Goals as goal
+use Rattle.ptk_timeline_segments.proofs.row.LaneRow.bar_from.Goals as goal
 
 pub loop-behind-preserved : goal.loop-behind-preserved
 loop-behind-preserved c =

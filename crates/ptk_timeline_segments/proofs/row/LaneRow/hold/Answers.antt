@@ -1,5 +1,5 @@
 use Rattle.std.proofs.Common.{arith, ◌∙◌}
-use Rattle.ptk_timeline_segments.proofs.row.Row.hold.Goals as goal
+use Rattle.ptk_timeline_segments.proofs.row.LaneRow.hold.Goals as goal
 
 pub loop-self-preserved : goal.loop-self-preserved
 loop-self-preserved c = (

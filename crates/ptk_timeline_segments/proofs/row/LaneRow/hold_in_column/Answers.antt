@@ -2,7 +2,7 @@ use Rattle.std.proofs.Common.{◌≡◌, ℕ, ◌+◌, ◌<◌, length, subst, s
 use Rattle.ptk_timeline_segments.specs.Columns.{start_of}
 use Rattle.ptk_timeline_segments.specs.Tallies.{IsTallyOf}
 use Rattle.ptk_timeline_segments.proofs.Counting.{cells_filled, filled_within}
-use Rattle.ptk_timeline_segments.proofs.row.Row.hold_in_column.Goals as goal
+use Rattle.ptk_timeline_segments.proofs.row.LaneRow.hold_in_column.Goals as goal
 
 pub returns-then-reached-end-clause-right : goal.returns-then-reached-end-clause-right
 returns-then-reached-end-clause-right c = λ f is holds.

@@ -1,7 +1,7 @@
 use Rattle.std.proofs.Common.{◌≡◌, ℕ, ◌-◌, ◌≤◌, max}
 use Rattle.ptk_timeline_segments.specs.declared.look.Look.{Look}
 use Rattle.ptk_timeline_segments.specs.Rows.{HoldsOver, IsRowOf}
-use Rattle.ptk_timeline_segments.proofs.row.Row.hold.Given as goal
+use Rattle.ptk_timeline_segments.proofs.row.LaneRow.hold.Given as goal
 
 abbrev pub invariant-loop-self : goal.invariant-loop-self
 invariant-loop-self l =
