@@ -113,8 +113,14 @@ pub fn is_report(alloc: Global, parts: &[&str], source: &[&str], ticks: u64, wan
     }
 }
 
-/// Whether this is the guest's trace after this many ticks.
-pub fn is_trace(alloc: Global, parts: &[&str], source: &[&str], ticks: u64, want: &str) -> bool {
+// Whether this is the guest's trace after this many ticks.
+pub(crate) fn is_trace(
+    alloc: Global,
+    parts: &[&str],
+    source: &[&str],
+    ticks: u64,
+    want: &str,
+) -> bool {
     match guest_of(alloc, parts, source) {
         Some((config, files)) => is_text(trace_of(alloc, &config, &files, ticks), want),
         None => false,

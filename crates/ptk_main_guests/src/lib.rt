@@ -17,8 +17,7 @@ mod sights;
 pub mod sources;
 
 pub use guests::{
-    ALONE, LIBRARY, NUMBERS, P, config_of, files_with, guest_of, image_of, is_report, is_trace,
-    report_of,
+    ALONE, LIBRARY, NUMBERS, P, config_of, files_with, guest_of, image_of, is_report, report_of,
 };
 pub use ptk_config::Config;
 pub use ptk_main_runs::{BootFault, Files, RunFault, System, run_with, trace_with};
