@@ -1,6 +1,6 @@
 //! The guests in C and C++ and their reports.
 
-use crate::{config_of, images_of, tick_of};
+use crate::{read_guest, tick_of};
 use anyhow::{Context, Error, Result};
 use ptk_main_guests::{BootFault, RunFault, run_with};
 
@@ -66,12 +66,9 @@ pub(crate) fn print_reports(rt: &HostRuntime) -> Result<()> {
 fn print_report(rt: &HostRuntime, name: &str, ticks: u64) -> Result<()> {
     let alloc = rt.alloc();
     let configuration = format!(in alloc; "guests/{name}.toml")?;
-    let config = config_of(rt, configuration.as_str())?;
-    let files = images_of(rt, &config, "guests/")?;
-    match run_with(alloc, &config, &files, tick_of(ticks), &mut rt.stdout()) {
-        Ok(()) => Ok(()),
-        Err(fault) => Err(Error::msg(reason(fault))),
-    }
+    let (config, files) = read_guest(rt, configuration.as_str(), Some("guests"))?;
+    let outcome = run_with(alloc, &config, &files, tick_of(ticks), &mut rt.stdout());
+    outcome.map_err(|fault| Error::msg(reason(fault)))
 }
 
 // Why a run gives no report, in words. With `?` in its place the checker does not find the type of a boot's fault.

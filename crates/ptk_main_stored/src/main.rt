@@ -10,7 +10,8 @@
 //! picture is `docs/inversion.svg`; and a guest with two owners of a mutex, in a plan of two stages with lost ticks and
 //! lost input, and in columns of many ticks. There are no tests here: those of the data of pictures are in
 //! `ptk_main_rows`. That a report is the one of the booted configuration, `run_with` of `ptk_main_runs` promises, which
-//! `ptk_main_guests` passes on. Below is besides the drawing (`ptk_timeline`); nothing is above.
+//! `ptk_main_guests` passes on. Below are besides the drawing (`ptk_timeline`) and the reading of files
+//! (`ptk_main_tools`); nothing is above.
 
 ghost use Rattle.std.specs.Prelude.{◌≤◌};
 ghost use Rattle.ptk_words.specs.declared.TheConstants.{LAST_TICK};
@@ -18,54 +19,23 @@ ghost use Rattle.ptk_words.specs.declared.TheConstants.{LAST_TICK};
 mod guests;
 mod pictures;
 
-use anyhow::Result;
-use ptk_config::{Config, Section, read_config};
-use ptk_main_guests::Files;
+use anyhow::{Error, Result};
+use ptk_main_guests::{Config, Files};
+use ptk_main_tools::{config_in, images_of};
 use ptk_words::{LAST_TICK, Tick};
-use std::fs;
 
 fn main(rt: HostRuntime) -> Result<()> {
     guests::print_reports(&rt)?;
     pictures::print_pictures(&rt)
 }
 
-// The configuration in the file of this name. An error where the file can't be read or the configuration is refused.
-fn config_of(rt: &HostRuntime, name: &str) -> Result<Config> {
-    let text = fs::read_to_string(rt, name)?;
-    let config = read_config(rt.alloc(), text.as_str())?;
-    Ok(config)
-}
-
-// The images that the sections name, which are in the folder, under the names that the sections have for them. An error
-// where a file can't be read.
-fn images_of(rt: &HostRuntime, config: &Config, folder: &str) -> Result<Files> {
-    let mut files = Files::new(rt.alloc());
-    for section in config.sections() {
-        add_image_of(rt, &mut files, section, folder)?;
-    }
-    Ok(files)
-}
-
-// Adds the image that a section names, if it names one.
-fn add_image_of(
-    rt: &HostRuntime,
-    files: &mut Files,
-    section: &Section,
-    folder: &str,
-) -> Result<()> {
-    match section.image() {
-        Some(name) => add_image(rt, files, name, folder),
-        None => Ok(()),
-    }
-}
-
-// Adds the file of this name in the folder.
-fn add_image(rt: &HostRuntime, files: &mut Files, name: &str, folder: &str) -> Result<()> {
-    let alloc = rt.alloc();
-    let path = format!(in alloc; "{folder}{name}")?;
-    let bytes = fs::read(rt, path.as_str())?;
-    files.add(name, bytes.as_slice())?;
-    Ok(())
+// The configuration in the file of this name, and the images that its sections name, which are in the folder `root`,
+// where one is given, under the names that the sections have for them. An error where a file can't be read or the
+// configuration is refused.
+fn read_guest(rt: &HostRuntime, name: &str, root: Option<&str>) -> Result<(Config, Files)> {
+    let config = config_in(rt, name).map_err(|fault| Error::msg(fault))?;
+    let files = images_of(rt, &config, root).map_err(|fault| Error::msg(fault))?;
+    Ok((config, files))
 }
 
 // The tick of a number, at most the last one.

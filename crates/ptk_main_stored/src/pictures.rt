@@ -3,11 +3,10 @@
 ghost use Rattle.std.specs.Prelude.{◌≤◌};
 ghost use Rattle.ptk_words.specs.declared.TheConstants.{LAST_TICK};
 
-use crate::{config_of, images_of, tick_of};
+use crate::{read_guest, tick_of};
 use anyhow::{Context, Error, Result};
-use ptk_config::Config;
-use ptk_main_guests::{Files, System};
-use ptk_timeline::{Names, PictureFault, Starts, Symbols, picture_with};
+use ptk_main_guests::{Config, Files, System};
+use ptk_timeline::{Names, Starts, Symbols, picture_with};
 use ptk_words::Tick;
 
 /// Prints the pictures. An error where a file can't be read, a configuration is refused, a system does not boot, or the
@@ -22,8 +21,7 @@ pub(crate) fn print_pictures(rt: &HostRuntime) -> Result<()> {
 // Prints the name of a configuration and the picture of its run, from a tick on and before another.
 fn print_picture(rt: &HostRuntime, name: &str, from: u64, to: u64) -> Result<()> {
     println!(rt; "{name}")?;
-    let config = config_of(rt, name)?;
-    let files = images_of(rt, &config, "")?;
+    let (config, files) = read_guest(rt, name, None)?;
     draw(rt, &config, &files, tick_of(from), tick_of(to)).context("no picture")
 }
 
@@ -40,10 +38,6 @@ fn draw(rt: &HostRuntime, config: &Config, files: &Files, from: Tick, to: Tick) 
         symbols: &symbols,
     };
     let out = &mut rt.stdout();
-    match picture_with(rt.alloc(), config, &mut system, &names, from, to, out) {
-        Ok(()) => Ok(()),
-        Err(PictureFault::Memory) => Err(Error::msg("out of memory")),
-        Err(PictureFault::Write) => Err(Error::msg("the writer failed")),
-        Err(PictureFault::NoTicks) => Err(Error::msg("no tick to show")),
-    }
+    picture_with(rt.alloc(), config, &mut system, &names, from, to, out)?;
+    Ok(())
 }

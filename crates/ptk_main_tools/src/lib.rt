@@ -9,8 +9,8 @@
 //!
 //! Below are the command line (`ptk_main_line`), the lines of faults (`ptk_main_faults`), the configuration
 //! (`ptk_config`), the assembler (`ptk_asm`), the way back (`ptk_disasm`) and tables of symbols (`ptk_symbols`); above
-//! is `ptk_main_files`, with the requests over a configuration. It is apart from that crate so that it is proved beside
-//! the kernel, and not after the answers. No clause is costly to prove.
+//! are `ptk_main_files`, with the requests over a configuration, and of the tests `ptk_main_stored`. It is apart from
+//! the first so that it is proved beside the kernel, and not after the answers. No clause is costly to prove.
 
 mod assembling;
 mod disassembling;
