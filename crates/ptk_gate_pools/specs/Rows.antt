@@ -5,16 +5,16 @@ use Rattle.ptk_words_parted.specs.Parts.{part_of}
 use Rattle.ptk_words_instructions.specs.PlainSteps.{core, is_plain, plain_steps}
 use Rattle.ptk_gate_boot.specs.Quiet.{ArePlain, computed, last_after}
 use Rattle.ptk_gate_boot.specs.TracedRows.{traced}
-use Rattle.ptk_gate_pools.specs.declared.rows.Row.{Row}
+use Rattle.ptk_gate_pools.specs.declared.rows.PlainRow.{PlainRow}
 
 -- the partition has a memory, the ticks of the row are numbers of 64 bits, and those that the thread used of its interval are of 32 (own)
-pub record MayRun (row : Row) (thread : Thread) : Type 0 where
+pub record MayRun (row : PlainRow) (thread : Thread) : Type 0 where
   pub partition : row.p < length row.memories.now
   pub time : row.tick < 2 ^ 63
   pub room : thread.used + row.most < 2 ^ 32
 
 -- so many steps, all plain, have made this of the thread, and have been counted in memory, trace and last step (own)
-pub record HasRun (row : Row) (thread : Thread) (steps : ℕ) (after : Row) (made : Thread) : Type 0 where
+pub record HasRun (row : PlainRow) (thread : Thread) (steps : ℕ) (after : PlainRow) (made : Thread) : Type 0 where
   pub few : steps ≤ row.most
   pub plain : ArePlain steps (core thread.cpu (part_of row.memories.now row.p))
   pub left : made ≡ computed steps (plain_steps steps (core thread.cpu (part_of row.memories.now row.p))).cpu thread

@@ -71,7 +71,7 @@ fn run_at(
     ensures last { (thread : Thread) → thread_in roster.old.table p t ≡ Some thread → last.new ≡ last_after tick t result (core thread.cpu (part_of memories.old p)) last.old }
     ensures ended { (thread : Thread) → thread_in roster.old.table p t ≡ Some thread → result < most → is_plain (plain_steps result (core thread.cpu (part_of memories.old p))) ≡ false }
 {
-    let mut row = Row {
+    let mut row = PlainRow {
         p,
         t,
         tick,
@@ -86,7 +86,7 @@ fn run_at(
 /// Plain steps of a thread in a row, as work on it: whose they are, of which partition, from when on and at most how
 /// many, and what they write beside its registers.
 #[derive(Drop)]
-struct Row<'a> {
+struct PlainRow<'a> {
     p: PartId,
     t: ThreadNo,
     tick: Tick,
@@ -96,7 +96,7 @@ struct Row<'a> {
     last: &'a mut Option<Entry>,
 }
 
-impl Work for Row<'_> {
+impl Work for PlainRow<'_> {
     ghost use Rattle.ptk_gate_pools.specs.Rows.{MayRun, HasRun};
 
     type Answer = u32;
