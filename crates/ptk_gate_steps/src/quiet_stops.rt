@@ -36,13 +36,9 @@ pub fn quiet_until(look: &Look<'_>, tick: Tick, stop: Tick) -> Option<Quiet>
     ensures quiet { IfSome result (λ q. (tick < q.stop) × (q.stop ≤ stop) × ((thread : Thread) × (thread_at look.now.part.locks q.thread ≡ Some thread) × IsQuiet look.now.limits tick q.stop q.thread thread look.now.part)) }
     ensures full { (t k : ℕ) → (thread : Thread) → tick < k → k ≤ stop → IsQuiet look.now.limits tick k t thread look.now.part → IsSomeAnd result (λ q. k ≤ q.stop) }
 {
-    match look.running() {
-        Some(number) => match look.thread_ref(number) {
-            Some(thread) => quiet_thread(look, number, thread, tick, stop),
-            None => None,
-        },
-        None => None,
-    }
+    let number = look.running()?;
+    let thread = look.thread_ref(number)?;
+    quiet_thread(look, number, thread, tick, stop)
 }
 
 /// `quiet_until` of a partition whose running thread is chosen: it stays before those of the line, and that is not
@@ -59,10 +55,8 @@ pub fn prepared_until(look: &Look<'_>, tick: Tick, stop: Tick) -> Option<Quiet>
     ensures quiet { IfSome result (λ q. (tick < q.stop) × (q.stop ≤ stop) × ((thread : Thread) × (thread_at look.now.part.locks q.thread ≡ Some thread) × IsQuiet look.now.limits tick q.stop q.thread thread look.now.part)) }
     ensures full { (t k : ℕ) → (thread : Thread) → tick < k → k ≤ stop → IsQuiet look.now.limits tick k t thread look.now.part → IsSomeAnd result (λ q. k ≤ q.stop) }
 {
-    match look.running() {
-        Some(number) => chosen_thread(look, number, look.used_thread(number), tick, stop),
-        None => None,
-    }
+    let number = look.running()?;
+    chosen_thread(look, number, look.used_thread(number), tick, stop)
 }
 
 /// Whether the running thread stays and goes on computing, and up to which tick.

@@ -29,26 +29,18 @@ pub struct NextStep {
 pub fn next_step(look: &Look<'_>) -> Option<NextStep>
     ensures { result ≡ next_step_in look.now.part }
 {
-    match look.running() {
-        Some(number) => match look.thread_ref(number) {
-            Some(thread) => Some(step_of(look, number, thread)),
-            None => None,
-        },
-        None => None,
-    }
+    let number = look.running()?;
+    let thread = look.thread_ref(number)?;
+    Some(step_of(look, number, thread))
 }
 
 /// The thread that runs, if one does.
 pub fn runner(look: &Look<'_>) -> Option<Runner>
     ensures { result ≡ runner_of look.now.part }
 {
-    match look.running() {
-        Some(number) => match look.thread(number) {
-            Some(thread) => Some(Runner { number, thread }),
-            None => None,
-        },
-        None => None,
-    }
+    let number = look.running()?;
+    let thread = look.thread(number)?;
+    Some(Runner { number, thread })
 }
 
 /// The next step of a thread, by its pc and the word there.
