@@ -16,6 +16,9 @@ use ptk_words::{
     ThreadNo,
 };
 
+/// The priority of main (own choice).
+const MAIN_PRIORITY: u8 = 16;
+
 impl Tables {
     /// Loads an image into a partition that has none: the text to address 0, the data after it, and main, of
     /// SCHED_FIFO and priority 16, starts at the entry. Where text, data and bss do not fit below all stacks the
@@ -92,7 +95,7 @@ fn main_thread(limits: &Limits, entry: u32) -> Thread
     Thread {
         cpu,
         policy: Policy::Fifo,
-        priority: Priority::new(16),
+        priority: Priority::new(MAIN_PRIORITY),
         used: 0,
         is_main: true,
         is_detached: false,

@@ -36,4 +36,4 @@ pub use replies::{refuse, reply, succeed, succeed_with, succeed_with_two};
 pub use targets::{named_thread, target};
 pub use times::asked_deadline;
 pub use unwinding::{call_routine, start_unwinding};
-pub use words::{is_pointer, named_priority, policy_number};
+pub use words::{WORD_VALUES, is_pointer, named_priority, policy_number};

@@ -4,6 +4,7 @@ ghost use Rattle.std.specs.Prelude.{◌≡◌, ◌<◌, ◌≤◌, ◌+◌, leng
 ghost use Rattle.ptk_words_model.specs.Time.{timespec_at};
 ghost use Rattle.ptk_gate_moves.specs.Moves.{deadline_asked};
 
+use crate::words::WORD_VALUES;
 use ptk_clock::to_tick;
 use ptk_gate_pools::Pools;
 use ptk_words::{Tick, read_word};
@@ -31,6 +32,6 @@ fn deadline_of(low: u32, high: u32, nanoseconds: u32) -> Option<Tick>
     if nanoseconds >= 1_000_000_000 {
         return None;
     }
-    let seconds = (high as u64 * 4_294_967_296 + low as u64).cast_signed();
+    let seconds = (high as u64 * WORD_VALUES + low as u64).cast_signed();
     Some(to_tick(seconds, nanoseconds))
 }

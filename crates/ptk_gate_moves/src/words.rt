@@ -7,11 +7,20 @@ ghost use Rattle.ptk_words_model.specs.ThreadCreation.{policy_number, priority_o
 use ptk_gate_pools::Pools;
 use ptk_words::{Policy, Priority};
 
+/// How many values a word of 32 bits has.
+pub const WORD_VALUES: u64 = 4_294_967_296;
+
+/// The least priority (own choice).
+const LEAST_PRIORITY: u32 = 1;
+
+/// The greatest priority (own choice).
+const GREATEST_PRIORITY: u32 = 32;
+
 /// The priority of a guest's number, 1 to 32; None of another word.
 pub fn named_priority(word: u32) -> Option<Priority>
     ensures { result ≡ priority_of word }
 {
-    if 1 <= word && word <= 32 {
+    if LEAST_PRIORITY <= word && word <= GREATEST_PRIORITY {
         Some(Priority::new(word as u8))
     } else {
         None

@@ -9,7 +9,7 @@ ghost use Rattle.ptk_gate_services.specs.Times.{with_seconds, with_time, slept};
 
 use ptk_clock::from_tick;
 use ptk_gate_moves::{
-    Pools, asked_deadline, block, cancel, is_cancelled, is_pointer, refuse, succeed,
+    Pools, WORD_VALUES, asked_deadline, block, cancel, is_cancelled, is_pointer, refuse, succeed,
 };
 use ptk_words::{Errno, Tick, Wait};
 use ptk_words_model::{Invocation, Reply};
@@ -68,8 +68,8 @@ fn store_seconds(pools: &mut Pools, pointer: u32, size: u32, seconds: u64)
     requires room { pointer + 8 ≤ size }
     ensures { pools.new ≡ record pools.old { here = with_seconds pointer seconds pools.old.here } }
 {
-    pools.store_word(pointer, (seconds % 4_294_967_296) as u32);
-    pools.store_word(pointer + 4, (seconds / 4_294_967_296) as u32);
+    pools.store_word(pointer, (seconds % WORD_VALUES) as u32);
+    pools.store_word(pointer + 4, (seconds / WORD_VALUES) as u32);
 }
 
 /// clock_nanosleep with TIMER_ABSTIME: the caller blocks until the time of the timespec at the pointer of a1, rounded

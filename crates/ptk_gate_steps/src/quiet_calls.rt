@@ -23,6 +23,9 @@ use ptk_gate_moves::{Pools, is_pointer, named_thread, policy_number};
 use ptk_keys::KeyNo;
 use ptk_words::{A0, A1, A2, Call, Cpu, Errno, MutexNo, ThreadNo, read_word};
 
+/// The greatest number of a mutex (own choice).
+const MUTEX_LIMIT: u32 = 64;
+
 /// Whether the thread's call, or a number that is no call, is quiet with this word in a0.
 #[inline(always)]
 pub(crate) fn is_quiet(pools: &Pools, t: ThreadNo, known: Option<Call>, a0: u32) -> bool
@@ -151,7 +154,7 @@ fn mutex_numbered(pools: &Pools, pointer: u32) -> Option<MutexNo>
         return None;
     }
     let word = read_word(pools.memory(), pointer as usize);
-    if word == 0 || 64 < word {
+    if word == 0 || MUTEX_LIMIT < word {
         return None;
     }
     Some(MutexNo::new(word as u8))
