@@ -20,6 +20,7 @@ use crate::tables::Tables;
 use ptk_gate_services::{arrive_due, expire_due};
 use ptk_gate_steps::{NextStep, a0_after, instruct, next_step, registers, runner};
 use ptk_gate_threads::{choose, count_interval, start_unwinding, step_at_gate};
+use ptk_threads::ThreadField;
 use ptk_words::{CANCELED, Cpu, Entry, PartId, Thread, ThreadNo, Tick};
 use ptk_words_model::Runner;
 
@@ -124,7 +125,8 @@ impl Tables {
         ensures still_running { IsSome (part_at p self.new).running }
     {
         self.pools.take(p);
-        self.pools.give_pc(t, pc.wrapping_add(4));
+        self.pools
+            .update(t, &ThreadField::Address(pc.wrapping_add(4)));
     }
 
     /// A step of the thread from these registers: the instruction's effect on the registers and the memory, or the

@@ -21,6 +21,7 @@ use crate::tables::Tables;
 use ptk_gate_pools::Pools;
 use ptk_gate_steps::call_cost;
 use ptk_gate_threads::count_interval;
+use ptk_threads::ThreadField;
 use ptk_words::{A0, A7, Call, Cpu, ECALL, Entry, PartId, Policy, ThreadNo, Tick};
 use ptk_words_model::{Invocation, Spent};
 
@@ -80,7 +81,7 @@ fn make_yield(pools: &mut Pools, t: ThreadNo, tick: Tick, pc: u32)
     requires running { pools.old.here.running ≡ Some t }
     ensures { (i : Invocation) (cost : ℕ) → i.caller ≡ t → i.tick ≡ tick → pools.new ≡ record pools.old { here = finished (limits_here pools.old) (ecall_entry pc i) cost (answer_to (Some SchedYield) i (past_ecall t pc pools.old.here)).part } }
 {
-    pools.put_pc(t, pc.wrapping_add(4));
+    pools.update(t, &ThreadField::Address(pc.wrapping_add(4)));
     pools.end_turn_with(t, &[0]);
     pools.note_last(Entry {
         tick,
@@ -100,7 +101,7 @@ fn make_step(pools: &mut Pools, known: Option<Call>, i: &Invocation, pc: u32, co
     ensures { pools.new ≡ record pools.old { here = finished (limits_here pools.old) (ecall_entry pc i.now) cost (answer_to known i.now (past_ecall i.now.caller pc pools.old.here)).part } }
 {
     let entry = entry_of(i, pc);
-    pools.put_pc(i.caller, pc.wrapping_add(4));
+    pools.update(i.caller, &ThreadField::Address(pc.wrapping_add(4)));
     let _told = reply_to(pools, known, i);
     finish(pools, &entry, cost);
 }

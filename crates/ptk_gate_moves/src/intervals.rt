@@ -8,6 +8,7 @@ ghost use Rattle.ptk_words_sync_invariant.specs.Conditions.{IsNoWaiter};
 
 use crate::places::end_turn;
 use ptk_gate_pools::Pools;
+use ptk_threads::ThreadField;
 use ptk_words::{Policy, ThreadNo};
 
 /// A thread of SCHED_RR that still runs after a step of this many ticks has used them; at the interval it goes to the
@@ -25,7 +26,7 @@ pub fn count_interval(pools: &mut Pools, interval: u32, cost: u32, t: ThreadNo)
             if interval as u64 <= used {
                 end_turn(pools, t);
             } else {
-                pools.give_used(t, used as u32);
+                pools.update(t, &ThreadField::Used(used as u32));
             }
         }
     }

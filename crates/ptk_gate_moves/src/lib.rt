@@ -32,6 +32,7 @@ pub use creation::begin;
 pub use intervals::count_interval;
 pub use places::{end_turn, push_tail, step_back};
 pub use ptk_gate_pools::{Look, Pools};
+pub use ptk_threads::ThreadField;
 pub use replies::{refuse, reply, succeed, succeed_with, succeed_with_two};
 pub use targets::{named_thread, target};
 pub use times::asked_deadline;

@@ -9,6 +9,7 @@ ghost use Rattle.ptk_gate_pools.specs.Moves.{stopped};
 ghost use Rattle.ptk_words_sync_invariant.specs.Conditions.{IsNoWaiter};
 
 use ptk_gate_pools::Pools;
+use ptk_threads::ThreadField;
 use ptk_words::ThreadNo;
 
 /// Puts a thread that is in use, not in the line and no waiter at its tail, with no ticks used.
@@ -19,7 +20,7 @@ pub fn push_tail(pools: &mut Pools, t: ThreadNo)
     ensures { pools.new ≡ record pools.old { here = with_locks (at_tail t) pools.old.here } }
 {
     pools.append(t);
-    pools.give_used(t, 0);
+    pools.update(t, &ThreadField::Used(0));
 }
 
 /// The running thread goes to the tail, and no thread runs.

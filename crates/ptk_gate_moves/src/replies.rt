@@ -4,6 +4,7 @@ ghost use Rattle.std.specs.Prelude.{◌≡◌, ◌<◌, [], ◌∷◌, length};
 ghost use Rattle.ptk_words_model.specs.Calls.{replied, refusal, success};
 
 use ptk_gate_pools::Pools;
+use ptk_threads::Values;
 use ptk_words::{Errno, ThreadNo};
 use ptk_words_model::{Invocation, Reply};
 
@@ -12,7 +13,7 @@ pub fn reply(pools: &mut Pools, t: ThreadNo, values: &[u32])
     requires few { length values.now < 4 }
     ensures { pools.new ≡ record pools.old { here = replied t values.now pools.old.here } }
 {
-    pools.give_values(t, values);
+    pools.update_if_used(t, &Values { values });
 }
 
 /// Refuses the call: the error number in a0, and nothing else changes.

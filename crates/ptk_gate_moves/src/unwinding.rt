@@ -7,6 +7,7 @@ ghost use Rattle.ptk_words_model.specs.Unwinding.{after_unwinding_start, after_r
 ghost use Rattle.ptk_gate_moves.specs.Moves.{unwinding};
 
 use ptk_gate_pools::Pools;
+use ptk_threads::ThreadField;
 use ptk_words::{A0, Phase, RA, RETURN_GATE, Thread, ThreadNo};
 
 /// Cancellation is disabled and deferred, the value is the result, and the next step is at the return gate
@@ -27,9 +28,9 @@ fn unwind(pools: &mut Pools, t: ThreadNo, value: u32)
 {
     if let Some(mut cpu) = pools.cpu(t) {
         cpu.set_pc(RETURN_GATE);
-        pools.give_cpu(t, cpu);
-        pools.give_result(t, value);
-        pools.give_phase(t, Phase::Unwinding);
+        pools.update_if_used(t, &ThreadField::Registers(cpu));
+        pools.update_if_used(t, &ThreadField::Result(value));
+        pools.update_if_used(t, &ThreadField::Phase(Phase::Unwinding));
     }
 }
 
@@ -43,7 +44,7 @@ pub fn call_routine(pools: &mut Pools, t: ThreadNo, routine: u32, argument: u32)
         cpu.set_register(A0, argument);
         cpu.set_register(RA, RETURN_GATE);
         cpu.set_pc(routine);
-        pools.give_cpu(t, cpu);
+        pools.update_if_used(t, &ThreadField::Registers(cpu));
     }
 }
 

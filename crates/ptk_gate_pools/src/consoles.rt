@@ -1,13 +1,13 @@
-//! The console: its output, its ring and its waiters.
+//! The console: its output, its input, its ring and its waiters.
 
-ghost use Rattle.std.specs.Prelude.{◌≡◌, ◌<◌, not, length};
+ghost use Rattle.std.specs.Prelude.{◌≡◌, ◌<◌, not, length, is_some};
 ghost use Rattle.ptk_words_model.specs.State.{with_console};
 ghost use Rattle.ptk_words_model.specs.Console.{is_full, with_waiter};
-ghost use Rattle.ptk_console.specs.ConsoleTable.{after_put, first_byte, without_byte, IsNotWaiting};
+ghost use Rattle.ptk_console.specs.ConsoleTable.{after_put, first_byte, next_byte, without_byte, IsNotWaiting};
 ghost use Rattle.ptk_gate_pools.specs.Held.{limits_here};
 
 use crate::pools::Pools;
-use ptk_words::ThreadNo;
+use ptk_words::{ThreadNo, Tick};
 
 impl Pools {
     /// Whether the partition's output has all the bytes that it may have.
@@ -26,6 +26,15 @@ impl Pools {
     {
         let p = self.hand;
         self.consoles.put(p, byte)
+    }
+
+    /// Whether the next input byte comes at the tick or before.
+    #[tactic(auto, using(crate::proofs::Hands::handed))]
+    pub fn is_input_due(&self, tick: Tick) -> bool
+        ensures { result ≡ is_some (next_byte tick self.now.here.console) }
+    {
+        let p = self.hand;
+        self.consoles.is_due(p, tick)
     }
 
     /// Takes the ring's first byte; None, and nothing changes, where the ring is empty.

@@ -23,7 +23,6 @@
 
 mod arrivals;
 mod building;
-mod callers;
 mod cancellations;
 mod conditions;
 mod consoles;

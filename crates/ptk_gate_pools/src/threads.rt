@@ -1,24 +1,23 @@
-//! A thread's number, and the fields of its entry. A move of a field leaves a free number free. Where a move may change
-//! who raises whom, the partition's stored priorities are computed again.
+//! A thread's number, and its entry: one call changes what no priority reads. Where another move may change who raises
+//! whom, the partition's stored priorities are computed again.
 
 ghost use Rattle.std.specs.Prelude.{◌≡◌, ◌<◌, false, length, Some, None, IsSome, is_some, option_and_then};
 ghost use Rattle.ptk_words.specs.Pools.{least_free, is_in};
+ghost use Rattle.ptk_words.specs.declared.threads.Thread.{Thread};
 ghost use Rattle.ptk_words.specs.Threads.{left_at_end, left_at_detach, mutex_of_wait};
 ghost use Rattle.ptk_words_model.specs.State.{with_locks};
 ghost use Rattle.ptk_words_model.specs.Priority.{thread_at};
-ghost use Rattle.ptk_words_model.specs.Schedule.{with_thread, with_used, after_wake};
+ghost use Rattle.ptk_words_model.specs.Schedule.{with_thread, after_wake};
 ghost use Rattle.ptk_words_model.specs.Unwinding.{without_thread};
-ghost use Rattle.ptk_words_model.specs.Withdrawal.{without_joiner};
-ghost use Rattle.ptk_words_model.specs.Decision.{with_cpu};
-ghost use Rattle.ptk_threads.specs.Table.{with_policy, with_priority, with_joiner, with_result, with_phase, with_wait};
+ghost use Rattle.ptk_threads.specs.Table.{with_priority, with_wait};
 ghost use Rattle.ptk_words_sync_invariant.specs.Conditions.{IsNoWaiter};
 ghost use Rattle.ptk_gate_waits.specs.LockTables.{AreLocked};
 ghost use Rattle.ptk_gate_pools.specs.Moves.{with_number, with_left};
 
 use crate::pools::Pools;
 use ptk_gate_waits::wake;
-use ptk_threads::ThreadField;
-use ptk_words::{Cpu, Phase, Policy, Priority, Thread, ThreadNo, Wait};
+use ptk_threads::{ThreadChange, ThreadField};
+use ptk_words::{Priority, Thread, ThreadNo, Wait};
 
 impl Pools {
     /// The least free number is the thread's.
@@ -43,24 +42,31 @@ impl Pools {
         self.mutexes.refresh(&mut self.roster, p);
     }
 
-    /// The thread has these registers.
+    /// Changes a thread, which is in use, and keeps its assigned priority and the mutex that it waits for.
+    #[inline(always)]
     #[tactic(auto, using(crate::proofs::Hands::handed, crate::proofs::Stored::stored))]
-    pub fn give_cpu(&mut self, t: ThreadNo, cpu: Cpu)
-        ensures { self.new ≡ record self.old { here = with_cpu t cpu self.old.here } }
+    pub fn update<C: ThreadChange>(&mut self, t: ThreadNo, change: &C)
+        requires in_use { IsSome (thread_at self.old.here.locks t) }
+        requires possible { C.can_make change.now }
+        requires priority { (thread : Thread) → (C.changed change.now thread).priority ≡ thread.priority }
+        requires mutex { (thread : Thread) → mutex_of_wait (C.changed change.now thread).wait ≡ mutex_of_wait thread.wait }
+        ensures { self.new ≡ record self.old { here = with_locks (with_thread t (C.changed change.now)) self.old.here } }
     {
         let p = self.hand;
-        self.roster
-            .update_if_used(p, t, &ThreadField::Registers(cpu));
+        self.roster.update(p, t, change);
     }
 
-    /// The thread has this policy (XSH 2.8.4).
+    /// Changes a thread, and keeps its assigned priority and the mutex that it waits for; a free number stays free.
+    #[inline(always)]
     #[tactic(auto, using(crate::proofs::Hands::handed, crate::proofs::Stored::stored))]
-    pub fn give_policy(&mut self, t: ThreadNo, policy: Policy)
-        ensures { self.new ≡ record self.old { here = with_locks (with_thread t (with_policy policy)) self.old.here } }
+    pub fn update_if_used<C: ThreadChange>(&mut self, t: ThreadNo, change: &C)
+        requires possible { C.can_make change.now }
+        requires priority { (thread : Thread) → (C.changed change.now thread).priority ≡ thread.priority }
+        requires mutex { (thread : Thread) → mutex_of_wait (C.changed change.now thread).wait ≡ mutex_of_wait thread.wait }
+        ensures { self.new ≡ record self.old { here = with_locks (with_thread t (C.changed change.now)) self.old.here } }
     {
         let p = self.hand;
-        self.roster
-            .update_if_used(p, t, &ThreadField::Policy(policy));
+        self.roster.update_if_used(p, t, change);
     }
 
     /// The thread has this assigned priority (XSH 2.8.4).
@@ -71,15 +77,6 @@ impl Pools {
     {
         let p = self.hand;
         self.mutexes.assign(&mut self.roster, p, t, priority);
-    }
-
-    /// The thread has used this many ticks of its interval (XSH 2.8.4, SCHED_RR).
-    #[tactic(auto, using(crate::proofs::Hands::handed, crate::proofs::Stored::stored))]
-    pub fn give_used(&mut self, t: ThreadNo, used: u32)
-        ensures { self.new ≡ record self.old { here = with_used t used self.old.here } }
-    {
-        let p = self.hand;
-        self.roster.update_if_used(p, t, &ThreadField::Used(used));
     }
 
     /// The thread waits for this, or for nothing (XSH 2.8.4).
@@ -114,44 +111,6 @@ impl Pools {
             return;
         }
         self.mutexes.refresh(&mut self.roster, p);
-    }
-
-    /// The thread is this far (pthread_exit).
-    #[tactic(auto, using(crate::proofs::Hands::handed, crate::proofs::Stored::stored))]
-    pub fn give_phase(&mut self, t: ThreadNo, phase: Phase)
-        ensures { self.new ≡ record self.old { here = with_locks (with_thread t (with_phase phase)) self.old.here } }
-    {
-        let p = self.hand;
-        self.roster.update_if_used(p, t, &ThreadField::Phase(phase));
-    }
-
-    /// The thread has this result (pthread_exit).
-    #[tactic(auto, using(crate::proofs::Hands::handed, crate::proofs::Stored::stored))]
-    pub fn give_result(&mut self, t: ThreadNo, value: u32)
-        ensures { self.new ≡ record self.old { here = with_locks (with_thread t (with_result value)) self.old.here } }
-    {
-        let p = self.hand;
-        self.roster
-            .update_if_used(p, t, &ThreadField::Result(value));
-    }
-
-    /// The thread's end is waited for by this one (pthread_join).
-    #[tactic(auto, using(crate::proofs::Hands::handed, crate::proofs::Stored::stored))]
-    pub fn give_joiner(&mut self, t: ThreadNo, joiner: ThreadNo)
-        ensures { self.new ≡ record self.old { here = with_locks (with_thread t (with_joiner (Some joiner))) self.old.here } }
-    {
-        let p = self.hand;
-        self.roster
-            .update_if_used(p, t, &ThreadField::Joiner(Some(joiner)));
-    }
-
-    /// Nobody waits for the end of the thread any more (pthread_join).
-    #[tactic(auto, using(crate::proofs::Hands::handed, crate::proofs::Stored::stored))]
-    pub fn drop_joiner(&mut self, u: ThreadNo)
-        ensures { self.new ≡ record self.old { here = with_locks (without_joiner u) self.old.here } }
-    {
-        let p = self.hand;
-        self.roster.update_if_used(p, u, &ThreadField::Joiner(None));
     }
 
     /// The thread is detached: its number is free where it has ended, and then it is not in the line (pthread_detach).

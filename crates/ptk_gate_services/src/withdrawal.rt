@@ -12,7 +12,7 @@ ghost use Rattle.ptk_words_invariant.specs.Well.{IsWell};
 ghost use Rattle.ptk_gate_moves.specs.Held.{limits_here};
 ghost use Rattle.ptk_words_sync_invariant.specs.Conditions.{IsNoWaiter};
 
-use ptk_gate_moves::Pools;
+use ptk_gate_moves::{Pools, ThreadField};
 use ptk_words::{ThreadNo, Wait};
 
 /// A thread blocked at a cancellation point is taken out of its wait with no reply, a condition waiter re-locks its
@@ -66,6 +66,6 @@ fn stop_joining(pools: &mut Pools, t: ThreadNo, u: ThreadNo)
     requires free { IsNoWaiter t pools.old.here.mutexes pools.old.here.conditions }
     ensures { pools.new ≡ record pools.old { here = with_mark t (with_locks (λ locks. after_wake t [] (without_joiner u locks)) pools.old.here) } }
 {
-    pools.drop_joiner(u);
+    pools.update_if_used(u, &ThreadField::Joiner(None));
     wake_marked(pools, t);
 }

@@ -4,7 +4,7 @@ ghost use Rattle.std.specs.Prelude.{◌≡◌};
 ghost use Rattle.ptk_words_instructions.specs.Instructions.{effect_at};
 ghost use Rattle.ptk_gate_steps.specs.Instructions.{after_instruction, settled};
 
-use ptk_gate_moves::{Pools, halt};
+use ptk_gate_moves::{Pools, ThreadField, halt};
 use ptk_rv32i::Outcome;
 use ptk_words::{Cause, Cpu, Status, ThreadNo};
 
@@ -25,7 +25,7 @@ fn settle(pools: &mut Pools, t: ThreadNo, pc: u32, outcome: Outcome, cpu: Cpu)
     ensures { pools.new ≡ record pools.old { here = settled t pc outcome cpu pools.old.here } }
 {
     match outcome {
-        Outcome::Done | Outcome::Call => pools.give_cpu(t, cpu),
+        Outcome::Done | Outcome::Call => pools.update_if_used(t, &ThreadField::Registers(cpu)),
         Outcome::Break => halt(pools, Status::Stopped(Cause::Break, pc)),
         Outcome::Fault(kind) => halt(pools, Status::Stopped(Cause::Fault(kind), pc)),
     }

@@ -15,7 +15,7 @@ ghost use Rattle.ptk_gate_steps.specs.Replies.{IsMade};
 
 use crate::kinds::{call_cost, word_fetched};
 use crate::quiet_calls::{is_quiet, put_reply};
-use ptk_gate_moves::Pools;
+use ptk_gate_moves::{Pools, ThreadField};
 use ptk_words::{A0, A7, Call, Cpu, ECALL, Policy, ThreadNo, cost};
 
 /// What a thread's next step is, as far as a stretch asks.
@@ -77,9 +77,9 @@ pub(crate) fn leave(pools: &mut Pools, t: ThreadNo, policy: Policy, used: u32, t
     requires room { used + ticks < 2 ^ 32 }
     ensures { pools.new ≡ record pools.old { here = with_locks (with_thread t (computed ticks cpu)) pools.old.here } }
 {
-    pools.give_cpu(t, cpu);
+    pools.update_if_used(t, &ThreadField::Registers(cpu));
     match policy {
         Policy::Fifo => {}
-        Policy::RoundRobin => pools.give_used(t, used + ticks),
+        Policy::RoundRobin => pools.update_if_used(t, &ThreadField::Used(used + ticks)),
     }
 }

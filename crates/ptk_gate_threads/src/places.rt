@@ -13,6 +13,7 @@ ghost use Rattle.ptk_words_sync_invariant.specs.Conditions.{IsNoWaiter};
 ghost use Rattle.ptk_gate_moves.specs.Moves.{with_scheduling};
 
 use ptk_gate_moves::{Pools, end_turn, push_tail, step_back};
+use ptk_threads::ThreadField;
 use ptk_words::{Policy, Priority, ThreadNo};
 use ptk_words_model::{Invocation, Reply};
 
@@ -98,6 +99,6 @@ fn give_scheduling(pools: &mut Pools, t: ThreadNo, policy: Policy, priority: Pri
     ensures { pools.new ≡ record pools.old { here = with_locks (with_thread t (with_scheduling policy priority)) pools.old.here } }
 {
     pools.give_priority(t, priority);
-    pools.give_policy(t, policy);
-    pools.give_used(t, 0);
+    pools.update_if_used(t, &ThreadField::Policy(policy));
+    pools.update_if_used(t, &ThreadField::Used(0));
 }
