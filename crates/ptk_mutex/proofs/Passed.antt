@@ -22,16 +22,13 @@ use Rattle.ptk_threads.proofs.Pools.{part_of-set}
 use Rattle.ptk_syncs.specs.Rosters.{Rostered, AreQueuesOf}
 use Rattle.ptk_syncs.specs.Waiters.{condition_of}
 use Rattle.ptk_mutex.specs.Sound.{IsSound}
+use Rattle.ptk_mutex.specs.Tables.{without_condition_waiter}
 use Rattle.ptk_mutex.proofs.NoWaiters.{out_of_mutex}
 use Rattle.ptk_mutex.proofs.Sound.{AreReadyAt, IsLocksMove, of_part, sound_relock}
 
 -- the condition variables of a partition without the waiter
 abbrev left_row : ℕ → ℕ → List (Option Condition) → List (Option Condition)
 left_row t c row = pool_set row c (Some (condition_of (without t (waiters_on (pool_get row c)))))
-
--- the roster without it
-abbrev pub without_sleeper : ℕ → ℕ → ℕ → Rostered → Rostered
-without_sleeper p t c a = record a { conditions = set a.conditions p (left_row t c (part_of a.conditions p)) }
 
 -- ---- it is among no waiters
 
@@ -60,10 +57,10 @@ left_cases t c d row others (inr ne) = ap (λ (x : Option Condition). is_in t (w
 
 -- as the links of the slot table show, and since it waits for no mutex
 pub passed_free : (p t c : ℕ) (links : List Link) (ends : List Ends) (lists : List (List (List ℕ))) (a : Rostered) → AreQueues links ends → queues links ends ≡ part_of lists p → AreQueuesOf a lists → AreReadyAt p a → awaited (thread_at (of_part p a).locks t) ≡ None
-    → is_in t (waiters_on (pool_get (part_of a.conditions p) c)) ≡ true → p < length a.conditions → IsNoWaiter t (part_of a.mutexes p) (part_of (without_sleeper p t c a).conditions p)
+    → is_in t (waiters_on (pool_get (part_of a.conditions p) c)) ≡ true → p < length a.conditions → IsNoWaiter t (part_of a.mutexes p) (part_of (without_condition_waiter p t c a).conditions p)
 passed_free p t c links ends lists a are is seen ready awake inside lt =
     let row : List (Option Condition) = part_of a.conditions p in
-    let left : part_of (without_sleeper p t c a).conditions p ≡ left_row t c row = part_of-set a.conditions p (left_row t c row) lt in
+    let left : part_of (without_condition_waiter p t c a).conditions p ≡ left_row t c row = part_of-set a.conditions p (left_row t c row) lt in
     record {
       of_mutexes = λ m. out_of_mutex t m (of_part p a).locks awake ready.locked;
       of_conditions = λ d.
@@ -73,8 +70,8 @@ passed_free p t c links ends lists a are is seen ready awake inside lt =
 
 -- ---- so the roster is sound once it waits for the mutex
 
-pub sound_passed : (p t c m : ℕ) (reply : Option ℕ) (a b : Rostered) → (p < length a.conditions → IsNoWaiter t (part_of a.mutexes p) (part_of (without_sleeper p t c a).conditions p))
-    → IsLocksMove p (without_sleeper p t c a) b (after_relock t m reply (of_part p a).locks) → IsSound (without_sleeper p t c a) → IsSound b
+pub sound_passed : (p t c m : ℕ) (reply : Option ℕ) (a b : Rostered) → (p < length a.conditions → IsNoWaiter t (part_of a.mutexes p) (part_of (without_condition_waiter p t c a).conditions p))
+    → IsLocksMove p (without_condition_waiter p t c a) b (after_relock t m reply (of_part p a).locks) → IsSound (without_condition_waiter p t c a) → IsSound b
 sound_passed p t c m reply a b free move sound =
     let lt : p < length a.conditions = rw length-set at (sound.synced p move.before.part.of_threads).of_conditions in
-    sound_relock p t m reply (without_sleeper p t c a) b (free lt) move sound
+    sound_relock p t m reply (without_condition_waiter p t c a) b (free lt) move sound

@@ -1,13 +1,15 @@
 -- The tables of all partitions, and of them one partition's threads, line and mutexes.
 use Rattle.std.specs.Prelude.{IsSome, ◌≡◌, ℕ, ◌<◌, ◌≤◌, true, false, List, length, Option, Some, None, slice_set}
-use Rattle.ptk_words.specs.Pools.{is_in}
+use Rattle.ptk_words.specs.Pools.{pool_get, pool_set, is_in, without}
 use Rattle.ptk_words.specs.declared.TheConstants.{COUNT_LIMIT}
 use Rattle.ptk_words_parted.specs.Parts.{part_of}
 use Rattle.ptk_words_model.specs.State.{Mutex, Locks}
 use Rattle.ptk_words_model.specs.Priority.{thread_at, awaited, effective_priorities}
 use Rattle.ptk_words_model.specs.Mutex.{mutex_at, waiters_of, count_of}
+use Rattle.ptk_words_model.specs.Condition.{waiters_on}
 use Rattle.ptk_threads.specs.Table.{ThreadTable}
 use Rattle.ptk_syncs.specs.Rosters.{Rostered}
+use Rattle.ptk_syncs.specs.Waiters.{condition_of}
 
 -- what the mutex calls read and change of a partition, by the tables of all (own)
 abbrev pub locks_by : ℕ → ThreadTable → List (List ℕ) → List (List (Option Mutex)) → Locks
@@ -41,6 +43,13 @@ put_locks_alone p locks roster =
       table = record roster.table { threads = slice_set roster.table.threads p locks.threads };
       lines = slice_set roster.lines p locks.line;
       mutexes = slice_set roster.mutexes p locks.mutexes;
+    }
+
+-- the roster in which the thread waits on the condition variable no more (pthread_cond_signal)
+abbrev pub without_condition_waiter : ℕ → ℕ → ℕ → Rostered → Rostered
+without_condition_waiter p t c roster =
+    record roster {
+      conditions = slice_set roster.conditions p (pool_set (part_of roster.conditions p) c (Some (condition_of (without t (waiters_on (pool_get (part_of roster.conditions p) c))))));
     }
 
 -- every table has the partition (own)

@@ -1,8 +1,8 @@
 //! The calls after which a waiter is ready: the reply to a thread that leaves a mutex's waiters, and the end of a
 //! condition wait.
 
-ghost use Rattle.std.specs.Prelude.{◌≡◌, ◌≤◌, ◌+◌, ◌<◌, true, false, None, Some, [], ◌∷◌, ◌++◌, length, IsSome, slice_set, option_to_list};
-ghost use Rattle.ptk_words.specs.Pools.{pool_get, pool_set, is_in, without};
+ghost use Rattle.std.specs.Prelude.{◌≡◌, ◌≤◌, ◌+◌, ◌<◌, true, false, None, [], ◌∷◌, ◌++◌, length, IsSome, slice_set, option_to_list};
+ghost use Rattle.ptk_words.specs.Pools.{pool_get, is_in};
 ghost use Rattle.ptk_words.specs.declared.TheConstants.{COUNT_LIMIT};
 ghost use Rattle.ptk_words.specs.declared.TheConstants.{THREAD_LIMIT};
 ghost use Rattle.ptk_words_parted.specs.Parts.{part_of};
@@ -11,11 +11,10 @@ ghost use Rattle.ptk_words_model.specs.declared.LockMove.TheVariants.{Counts, Wa
 ghost use Rattle.ptk_words_model.specs.Mutex.{mutex_at, count_of, relock_move, after_relock, after_relock_move, after_leave};
 ghost use Rattle.ptk_words_model.specs.Condition.{waiters_on};
 ghost use Rattle.ptk_words_sync_invariant.specs.Conditions.{IsNoWaiter};
-ghost use Rattle.ptk_syncs.specs.Waiters.{condition_of};
 ghost use Rattle.ptk_threads.specs.Table.{thread_in, with_changed};
 ghost use Rattle.ptk_mutex.specs.Visits.{IsVisited};
 ghost use Rattle.ptk_mutex.specs.Sound.{IsSound};
-ghost use Rattle.ptk_mutex.specs.Tables.{locks_at, put_locks, put_locks_alone, HasPart, IsWaiter, MayWait, AreReady};
+ghost use Rattle.ptk_mutex.specs.Tables.{locks_at, put_locks, put_locks_alone, without_condition_waiter, HasPart, IsWaiter, MayWait, AreReady};
 ghost use Rattle.ptk_mutex.specs.Moves.{after_withdrawal};
 ghost use Rattle.ptk_mutex.specs.Rises.{MayTake};
 
@@ -75,10 +74,10 @@ impl Mutexes {
         requires used { IsSome (pool_get (part_of roster.old.conditions p) c) }
         requires inside { is_in t (waiters_on (pool_get (part_of roster.old.conditions p) c)) ≡ true }
         requires waits { relock_move t (mutex_at (locks_at p roster.old) m) ≡ Waits }
-        ensures roster { roster.new ≡ put_locks p (after_relock t m reply (locks_at p roster.old)) (record roster.old { conditions = slice_set roster.old.conditions p (pool_set (part_of roster.old.conditions p) c (Some (condition_of (without t (waiters_on (pool_get (part_of roster.old.conditions p) c)))))) }) }
+        ensures roster { roster.new ≡ put_locks p (after_relock t m reply (locks_at p roster.old)) (without_condition_waiter p t c roster.old) }
         ensures visited { IsVisited self.new.visited (part_of roster.old.table.stored p) (part_of roster.new.table.stored p) }
         ensures ready { AreReady p roster.new }
-        ensures sound { IsSound (record roster.old { conditions = slice_set roster.old.conditions p (pool_set (part_of roster.old.conditions p) c (Some (condition_of (without t (waiters_on (pool_get (part_of roster.old.conditions p) c)))))) }) → IsSound roster.new }
+        ensures sound { IsSound (without_condition_waiter p t c roster.old) → IsSound roster.new }
     {
         let inheritor = inheritor_of(roster.mutex_slots(p), m);
         let _part = roster.threads().linked(p);

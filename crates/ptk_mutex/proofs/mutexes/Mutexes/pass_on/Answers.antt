@@ -6,8 +6,8 @@ use Rattle.ptk_words_model.specs.State.{Locks}
 use Rattle.ptk_words_model.specs.Mutex.{mutex_at, relock_move, after_relock, after_relock_move}
 use Rattle.ptk_threads_slots.specs.Links.{links_of}
 use Rattle.ptk_syncs.specs.Rosters.{Rostered}
-use Rattle.ptk_mutex.specs.Tables.{locks_by, put_locks}
-use Rattle.ptk_mutex.proofs.Passed.{without_sleeper, passed_free, sound_passed}
+use Rattle.ptk_mutex.specs.Tables.{locks_by, put_locks, without_condition_waiter}
+use Rattle.ptk_mutex.proofs.Passed.{passed_free, sound_passed}
 use Rattle.ptk_mutex.proofs.Raised.{block_before, block_next, block_put, inheritor-read, stored_visited}
 use Rattle.ptk_mutex.proofs.Steps.{locked_relock, put_ready}
 use Rattle.ptk_mutex.proofs.mutexes.Mutexes.pass_on.Goals as goal
@@ -30,7 +30,7 @@ pub returns-clause-roster : goal.returns-clause-roster
 returns-clause-roster c =
     let a : Rostered = c.args.roster.now in
     let locks : Locks = locks_by c.args.p a.table a.lines a.mutexes in
-    let left : Rostered = without_sleeper c.args.p c.args.t c.args.c a in
+    let left : Rostered = without_condition_waiter c.args.p c.args.t c.args.c a in
     block_put c.args.p c.args.t c.args.m (RelockWait c.args.m c.args.reply) left c.pass_to_mutex.new.self c.rise_behind-self.new.roster c.requires.ready.part c.pass_to_mutex.ensures c.rise_behind-self.ensures.stored
     ∙ ap (λ (made : LockMove). put_locks c.args.p (after_relock_move made c.args.t c.args.m c.args.reply locks) left) (sym c.requires.waits)
 
@@ -44,7 +44,7 @@ pub returns-clause-ready : goal.returns-clause-ready
 returns-clause-ready c =
     let a : Rostered = c.args.roster.now in
     let locks : Locks = locks_by c.args.p a.table a.lines a.mutexes in
-    put_ready c.args.p (without_sleeper c.args.p c.args.t c.args.c a) c.rise_behind-self.new.roster (after_relock c.args.t c.args.m c.args.reply locks) c.requires.ready.part
+    put_ready c.args.p (without_condition_waiter c.args.p c.args.t c.args.c a) c.rise_behind-self.new.roster (after_relock c.args.t c.args.m c.args.reply locks) c.requires.ready.part
     (locked_relock (relock_move c.args.t (mutex_at locks c.args.m)) c.args.t c.args.m c.args.reply locks (λ counts. absurd (let no : ⊥ = cc (c.requires.waits, counts) in no)) c.requires.caller c.requires.ready.locked) (returns-clause-roster c)
 
 pub returns-clause-sound : goal.returns-clause-sound
