@@ -10,7 +10,7 @@ ghost use Rattle.ptk_words_model.specs.Condition.{mutex_of_condition_wait, is_na
 ghost use Rattle.ptk_threads_slots.specs.Links.{threads_of};
 ghost use Rattle.ptk_cond.specs.Tables.{syncs_of};
 
-use ptk_mutex::{Roster, thread_slot};
+use ptk_mutex::{Roster, is_named, thread_slot};
 use ptk_threads::Slot;
 use ptk_words::{ConditionNo, MutexNo, PartId, ThreadNo, Wait};
 
@@ -74,17 +74,8 @@ fn is_naming_at(threads: &[Slot], t: ThreadNo, m: MutexNo) -> bool
 fn is_naming(slot: &Slot, m: MutexNo) -> bool
     ensures { result ≡ is_named m (mutex_of_condition_wait (wait_of slot.now.thread)) }
 {
-    is_named(m, mutex_of_condition_wait(slot.wait()))
-}
-
-/// Whether the mutex named is this one.
-fn is_named(m: MutexNo, named: Option<MutexNo>) -> bool
-    ensures { result ≡ is_named m named }
-{
-    match named {
-        Some(n) => n.number() == m.number(),
-        None => false,
-    }
+    let named = mutex_of_condition_wait(slot.wait());
+    is_named(m, named)
 }
 
 /// The mutex that a condition wait names; None of any other wait.

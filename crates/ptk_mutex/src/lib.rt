@@ -48,5 +48,6 @@ mod walk;
 pub use mutexes::Mutexes;
 pub use ptk_mutex_priorities::{MutexSlot, MutexState, effective, thread_slot};
 pub use ptk_syncs::Roster;
+pub use rise::is_named;
 pub use starting::build;
 pub use waking::{relock_move, wake};

@@ -157,11 +157,11 @@ fn passed_by(roster: &Roster, p: PartId, t: ThreadNo, m: MutexNo) -> u8
     }
 }
 
-/// Whether the mutex that is waited for is this one.
-fn is_named(m: MutexNo, awaited: Option<MutexNo>) -> bool
-    ensures { result ≡ is_named m awaited }
+/// Whether the mutex that a wait names is this one; false where it names none.
+pub fn is_named(m: MutexNo, named: Option<MutexNo>) -> bool
+    ensures { result ≡ is_named m named }
 {
-    match awaited {
+    match named {
         Some(n) => n.number() == m.number(),
         None => false,
     }
