@@ -4,6 +4,7 @@ ghost use Rattle.std.specs.Prelude.{◌≡◌, ℕ, ◌+◌, ◌*◌, ◌%◌, �
 ghost use Rattle.ptk_words_windows.specs.Windows.{IsOwn};
 ghost use Rattle.ptk_window.specs.Order.{IsFirst};
 ghost use Rattle.ptk_window.specs.Stages.{ArePlanned, HasTick, from_at, groups_at, plan_of};
+ghost use Rattle.ptk_window.specs.declared.stages.TheConstants.{NEVER};
 
 use crate::lookup::place_after;
 use crate::stages::{end_of, stage_at};
@@ -205,7 +206,7 @@ impl Near {
         requires planned { ArePlanned self.now.frame tables.now }
         requires has { HasTick self.now.frame tables.now self.now.stage self.now.frame_start }
         requires next { next ≡ self.now.frame_start + self.now.frame }
-        requires room { next < 18446744073709551615 }
+        requires room { next < NEVER }
         ensures { HasTick self.now.frame tables.now result next }
     {
         if next < end_of(tables, self.stage) {

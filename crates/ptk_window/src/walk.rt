@@ -28,7 +28,7 @@ pub struct Walk<'a> {
 pub(crate) struct Stay {
     /// Where the partition's first window stands.
     first: usize,
-    /// The tick at which the stage ends.
+    /// The tick at which the stage ends; `NEVER` of the last one.
     end: u64,
 }
 
