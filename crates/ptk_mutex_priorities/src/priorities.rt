@@ -5,7 +5,6 @@ ghost use Rattle.std.specs.Option.{option_flatten};
 ghost use Rattle.ptk_words.specs.Pools.{pool_get, numbers_of};
 ghost use Rattle.ptk_words.specs.declared.threads.Thread.{Thread};
 ghost use Rattle.ptk_words_model.specs.Priority.{awaited, assigned_of, next_in_chain, inheritor_of, effective_priorities};
-ghost use Rattle.ptk_words.specs.Threads.{mutex_of_wait};
 ghost use Rattle.ptk_words_parted.specs.Parts.{part_of};
 ghost use Rattle.ptk_threads_slots.specs.Links.{threads_of};
 ghost use Rattle.ptk_threads.specs.Table.{thread_in, stored_of, AreLevelsOf};
@@ -14,7 +13,7 @@ ghost use Rattle.ptk_mutex_priorities.specs.Tables.{effective_at};
 
 use crate::slot::{MutexSlot, slot_in};
 use ptk_threads::{Slot, Threads};
-use ptk_words::{MutexNo, PartId, Phase, ThreadNo, Wait};
+use ptk_words::{MutexNo, PartId, Phase, ThreadNo};
 
 /// The stored effective priority of a thread; None where the number names no thread or an ended one
 /// (pthread_mutexattr_getprotocol; own choice).
@@ -97,14 +96,10 @@ fn raise_chain(
 }
 
 /// The thread that inherits from a slot's thread: the owner of the INHERIT mutex that it waits for.
-#[tactic(auto, using(crate::proofs::Levels::readings))]
 fn inheritor_from(slot: &Slot, mutexes: &[MutexSlot]) -> Option<ThreadNo>
     ensures { result ≡ option_and_then (λ m. inheritor_of (pool_get mutexes.now m)) (awaited slot.now.thread) }
 {
-    match mutex_of_wait(slot.wait()) {
-        Some(m) => inheritor_of(mutexes, m),
-        None => None,
-    }
+    inheritor_of(mutexes, awaited_in(slot)?)
 }
 
 /// The assigned priority of a slot's thread, 0 of a free one (XSH 2.8.4).
@@ -134,41 +129,29 @@ fn raise(stored: &mut [u8], t: ThreadNo, priority: u8)
 pub fn next_in_chain(threads: &[Slot], mutexes: &[MutexSlot], t: ThreadNo) -> Option<ThreadNo>
     ensures { result ≡ next_in_chain (threads_of threads.now) mutexes.now t }
 {
-    match awaited(threads, t) {
-        Some(m) => inheritor_of(mutexes, m),
-        None => None,
-    }
+    inheritor_of(mutexes, awaited(threads, t)?)
 }
 
 /// The mutex that a thread waits for.
-#[tactic(auto, using(crate::proofs::Levels::readings))]
 pub fn awaited(threads: &[Slot], t: ThreadNo) -> Option<MutexNo>
     ensures { result ≡ awaited (pool_get (threads_of threads.now) t) }
 {
-    match thread_slot(threads, t) {
-        Some(slot) => mutex_of_wait(slot.wait()),
-        None => None,
-    }
+    awaited_in(thread_slot(threads, t)?)
 }
 
-/// The mutex that a wait is for.
-fn mutex_of_wait(wait: Option<Wait>) -> Option<MutexNo>
-    ensures { result ≡ mutex_of_wait wait }
+/// The mutex that a slot's thread waits for.
+#[tactic(auto, using(crate::proofs::Levels::readings))]
+fn awaited_in(slot: &Slot) -> Option<MutexNo>
+    ensures { result ≡ awaited slot.now.thread }
 {
-    match wait {
-        Some(wait) => wait.mutex(),
-        None => None,
-    }
+    slot.wait()?.mutex()
 }
 
 /// The thread that inherits from the waiters of a mutex.
 pub fn inheritor_of(mutexes: &[MutexSlot], m: MutexNo) -> Option<ThreadNo>
     ensures { result ≡ inheritor_of (pool_get mutexes.now m) }
 {
-    match slot_in(mutexes, m) {
-        Some(slot) => slot.inheritor(),
-        None => None,
-    }
+    slot_in(mutexes, m)?.inheritor()
 }
 
 /// The assigned priority of a thread, 1 to 32; 0 of a free number (XSH 2.8.4).

@@ -156,10 +156,8 @@ impl MutexSlot {
     pub(crate) fn inheritor(&self) -> Option<ThreadNo>
         ensures { result ≡ inheritor_of self.now }
     {
-        match &self.state {
-            Some(state) => inheritor(state.protocol, state.owner),
-            None => None,
-        }
+        let state = self.state.as_ref()?;
+        inheritor(state.protocol, state.owner)
     }
 
     /// The thread that owns its PROTECT mutex, with the ceiling; None where no thread owns a PROTECT mutex there
@@ -168,10 +166,8 @@ impl MutexSlot {
         ensures value { result ≡ protected_at self.now }
         ensures in_range { IfSome result (λ x. x.1 ≤ 32) }
     {
-        match &self.state {
-            Some(state) => protected(state.protocol, state.owner),
-            None => None,
-        }
+        let state = self.state.as_ref()?;
+        protected(state.protocol, state.owner)
     }
 }
 
