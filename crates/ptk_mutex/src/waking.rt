@@ -23,7 +23,6 @@ use crate::rise::rise_behind;
 use crate::rising::make;
 use ptk_mutex_priorities::{inheritor_of, kept_reply, slot_in};
 use ptk_syncs::Roster;
-use ptk_threads::Woken;
 use ptk_words::{ConditionNo, MutexNo, PartId, ThreadNo, Wait};
 use ptk_words_model::LockMove;
 
@@ -197,6 +196,5 @@ pub fn wake(roster: &mut Roster, p: PartId, t: ThreadNo, values: &[u32])
     requires free { IsNoWaiter t (part_of roster.old.mutexes p) (part_of roster.old.conditions p) }
     ensures { roster.new ≡ record roster.old { table = with_changed p t (woken_with values.now) roster.old.table; lines = slice_set roster.old.lines p (part_of roster.old.lines p ++ t ∷ []) } }
 {
-    roster.push_tail(p, t);
-    roster.update(p, t, &Woken { values });
+    roster.rouse(p, t, values);
 }

@@ -1,9 +1,12 @@
 -- The slot table's queues of ready threads, and those of waiters (own).
 use Rattle.std.proofs.Common.{◌≡◌, ℕ, ◌<◌, false, List, [], take, drop, map, sym, ◌∙◌, ap}
+use Rattle.std.specs.Prelude.{Option, Some, None}
 use Rattle.std.proofs.Math.ListN.{get_or-map}
 use Rattle.std.proofs.lemmas.List.{get_or-take}
 use Rattle.ptk_words.specs.Pools.{is_in}
 use Rattle.ptk_words_parted.specs.Parts.{part_of}
+use Rattle.ptk_threads.specs.Queues.{with_out}
+use Rattle.ptk_threads_slots.specs.declared.link.QueueName.{QueueName}
 
 -- by partition: the first 32 queues, one for each priority, and those after them
 abbrev pub ready_queues : List (List (List ℕ)) → List (List (List ℕ))
@@ -11,6 +14,11 @@ ready_queues queues = map (take 32) queues
 
 abbrev pub waiters_of : List (List (List ℕ)) → List (List (List ℕ))
 waiters_of queues = map (drop 32) queues
+
+-- one partition's queues by place, without k in this one, if one is named
+abbrev pub with_out_of : Option QueueName → ℕ → List (List ℕ) → List (List ℕ)
+with_out_of None k lists = lists
+with_out_of (Some name) k lists = with_out name k lists
 
 -- no thread lies in a queue of ready threads
 abbrev pub AreUnused : List (List (List ℕ)) → Type 0

@@ -1,13 +1,13 @@
 //! The form with queues that are linked through the slot table.
 
-ghost use Rattle.std.specs.Prelude.{◌≡◌, ◌<◌, ◌≤◌, ◌^◌, false, [], ◌∷◌, ◌++◌, length, IfOk, IsSome, replicate, slice_set};
+ghost use Rattle.std.specs.Prelude.{◌≡◌, ◌<◌, ◌≤◌, ◌^◌, false, [], ◌∷◌, ◌++◌, length, IfOk, IfSome, IsSome, replicate, slice_set};
 ghost use Rattle.ptk_words.specs.Pools.{is_in};
 ghost use Rattle.ptk_words_parted.specs.Parts.{part_of};
 ghost use Rattle.ptk_threads.specs.Table.{ThreadTable, thread_in, stored_of, with_changed, with_queues};
-ghost use Rattle.ptk_threads.specs.Queues.{IsUnqueued, with_out};
+ghost use Rattle.ptk_threads.specs.Queues.{IsUnqueued};
 ghost use Rattle.ptk_threads_slots.specs.Links.{place_of};
 ghost use Rattle.ptk_threads.specs.Schedule.{woken_with};
-ghost use Rattle.ptk_ready.specs.Queues.{AreUnused, waiters_of};
+ghost use Rattle.ptk_ready.specs.Queues.{AreUnused, waiters_of, with_out_of};
 ghost use Rattle.ptk_ready.specs.Lines.{with_refiled};
 ghost use Rattle.ptk_ready.specs.Partitions.{lines_by, AreFiled};
 
@@ -57,28 +57,28 @@ impl<const LIMIT: u64> LinkedLine<LIMIT> {
         self.entries.len()
     }
 
-    /// A thread, which is in use, not in the line, and lies in this queue of waiters or in none, leaves it and becomes
-    /// the last of the line; it waits for nothing any more, has these values in a0 and so on, and has used no tick of
-    /// its interval (XSH 2.8.4).
+    /// A thread, which is in use, not in the line, and lies in no queue but this one of waiters, if one is named,
+    /// leaves it and becomes the last of the line; it waits for nothing any more, has these values in a0 and so on,
+    /// and has used no tick of its interval (XSH 2.8.4).
     #[inline(always)]
-    pub fn rouse_from(
+    pub fn rouse(
         &mut self,
         threads: &mut Threads,
         p: PartId,
-        from: QueueName,
+        from: Option<QueueName>,
         k: ThreadNo,
         values: &[u32],
     )
         requires partition { (p < length (lines_by self.old threads.old.queues)) × (p < length threads.old.threads) }
-        requires waiters { 32 ≤ place_of from }
+        requires waiters { IfSome from (λ name. 32 ≤ place_of name) }
         requires in_use { IsSome (thread_in threads.old p k) }
         requires fresh { is_in k (part_of (lines_by self.old threads.old.queues) p) ≡ false }
         requires sound { AreFiled LIMIT self.old threads.old }
-        requires free { IsUnqueued k (with_out from k (part_of threads.old.queues p)) }
+        requires free { IsUnqueued k (with_out_of from k (part_of threads.old.queues p)) }
         requires priority { (0 < stored_of (part_of threads.old.stored p) k) × (stored_of (part_of threads.old.stored p) k ≤ 32) }
         requires few { length values.now < 4 }
         ensures sound { AreFiled LIMIT self.new threads.new }
-        ensures waiters { waiters_of threads.new.queues ≡ waiters_of (with_queues p (with_out from k) threads.old).queues }
+        ensures waiters { waiters_of threads.new.queues ≡ waiters_of (with_queues p (with_out_of from k) threads.old).queues }
         ensures line { lines_by self.new threads.new.queues
             ≡ slice_set (lines_by self.old threads.old.queues) p (part_of (lines_by self.old threads.old.queues) p ++ k ∷ []) }
         ensures threads { threads.new.threads ≡ (with_changed p k (woken_with values.now) threads.old).threads }
@@ -87,7 +87,11 @@ impl<const LIMIT: u64> LinkedLine<LIMIT> {
         let part = threads.linked(p);
         let entries = &mut self.entries[p.index()];
         let name = entries.push_tail(part.slots, part.ends, threads.stored(p), k);
-        threads.pass_updated(p, from, name, k, &Woken { values });
+        let change = Woken { values };
+        match from {
+            Some(from) => threads.pass_updated(p, from, name, k, &change),
+            None => threads.append_updated(p, name, k, &change),
+        }
     }
 }
 

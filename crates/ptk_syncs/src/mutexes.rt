@@ -174,7 +174,8 @@ impl Roster {
         let _number = m.number();
         let _parts = self.threads.parts();
         let _part = self.threads.linked(p);
-        self.line.rouse_from(&mut self.threads, p, QueueName::MutexWaiters(m), k, values);
+        let from = Some(QueueName::MutexWaiters(m));
+        self.line.rouse(&mut self.threads, p, from, k, values);
     }
 }
 

@@ -5,8 +5,8 @@ ghost use Rattle.std.specs.Prelude.{◌≡◌, ◌<◌, ◌≤◌, false, None, 
 ghost use Rattle.ptk_words.specs.Pools.{least_free, first_of_greatest, without, is_in};
 ghost use Rattle.ptk_words.specs.Threads.{left_at_end, left_at_detach};
 ghost use Rattle.ptk_words_parted.specs.Parts.{part_of, filled};
-ghost use Rattle.ptk_words_model.specs.Schedule.{with_reply};
-ghost use Rattle.ptk_threads.specs.Table.{free_table, thread_in, stored_of, with_stored, with_new, with_left, with_free};
+ghost use Rattle.ptk_words_model.specs.Schedule.{woken_with};
+ghost use Rattle.ptk_threads.specs.Table.{free_table, thread_in, stored_of, with_changed, with_stored, with_new, with_left, with_free};
 ghost use Rattle.ptk_words_sync_invariant.specs.Conditions.{IsNoWaiter};
 ghost use Rattle.ptk_ready.specs.Lines.{without_one};
 ghost use Rattle.ptk_syncs.specs.Rosters.{seen, AreQueuesOf};
@@ -129,6 +129,20 @@ impl Roster {
         ensures conditions { self.new.conditions ≡ self.old.conditions }
     {
         self.line.push_tail(&mut self.threads, p, k);
+    }
+
+    /// A thread that is in use, not in the line and no waiter becomes the line's last; it waits for nothing any more,
+    /// has these values in a0 and so on, and has used no tick of its interval (XSH 2.8.4).
+    #[inline(always)]
+    pub fn rouse(&mut self, p: PartId, k: ThreadNo, values: &[u32])
+        requires partition { p < length self.old.table.threads }
+        requires in_use { IsSome (thread_in self.old.table p k) }
+        requires fresh { is_in k (part_of self.old.lines p) ≡ false }
+        requires free { IsNoWaiter k (part_of self.old.mutexes p) (part_of self.old.conditions p) }
+        requires few { length values.now < 4 }
+        ensures { self.new ≡ record self.old { table = with_changed p k (woken_with values.now) self.old.table; lines = slice_set self.old.lines p (part_of self.old.lines p ++ k ∷ []) } }
+    {
+        self.line.rouse(&mut self.threads, p, None, k, values);
     }
 
     /// A thread that is in use, not in the line and no waiter becomes the line's first.

@@ -18,8 +18,8 @@ use Rattle.ptk_syncs.proofs.Waits.{has_queues, mutex_whole, left_seen, waiter_in
 use Rattle.ptk_syncs.proofs.Passed.{away, roused_whole, roused_seen}
 use Rattle.ptk_syncs.proofs.roster.Roster.rouse_from_mutex.Goals as goal
 
-pub rouse_from-requires : goal.rouse_from-requires
-rouse_from-requires c =
+pub rouse-requires : goal.rouse-requires
+rouse-requires c =
     let own : IsSome (thread_in c.self.inside.threads c.args.p c.args.k) = subst (λ (n : Rostered). IsSome (thread_in n.table c.args.p c.args.k)) (sym c.self.view_is) c.requires.in_use in
     let out : is_in c.args.k (part_of (lines_by c.self.inside.line c.self.inside.threads.queues) c.args.p) ≡ false = subst (λ (n : Rostered). is_in c.args.k (part_of n.lines c.args.p) ≡ false) (sym c.self.view_is) c.requires.fresh in
     let far : 32 ≤ c.args.m + 31 = omega (arith, c.number-number.ensures.value, c.number-number.ensures.positive) in
@@ -32,11 +32,11 @@ pub invariant_of-self : goal.invariant_of-self
 invariant_of-self c =
     let left : ThreadTable = with_queues c.args.p (with_out (MutexWaiters c.args.m) c.args.k) c.self.inside.threads in
     let own : IsSome (thread_in c.self.inside.threads c.args.p c.args.k) = subst (λ (n : Rostered). IsSome (thread_in n.table c.args.p c.args.k)) (sym c.self.view_is) c.requires.in_use in
-    roused_whole 4611686018427387904 c.self.inside.line c.rouse_from.new.self left c.rouse_from.new.threads c.self.inside.mutexes c.self.inside.conditions c.args.p c.args.k (woken_with c.args.values.now) (part_of (lines_by c.self.inside.line left.queues) c.args.p ++ c.args.k ∷ [])
+    roused_whole 4611686018427387904 c.self.inside.line c.rouse.new.self left c.rouse.new.threads c.self.inside.mutexes c.self.inside.conditions c.args.p c.args.k (woken_with c.args.values.now) (part_of (lines_by c.self.inside.line left.queues) c.args.p ++ c.args.k ∷ [])
     (mutex_whole 4611686018427387904 c.self.inside.line c.self.inside.threads left c.self.inside.mutexes c.self.inside.conditions c.args.p c.args.m (without c.args.k (part_of (part_of c.self.inside.threads.queues c.args.p) (c.args.m + 31))) (omega (arith, c.number-number.ensures.value, c.number-number.ensures.positive)) (omega (arith, c.number-number.ensures.value, c.number-number.ensures.in_range))
     (λ none. ap (without c.args.k) (c.self.invariant.pools.free_mutexes c.args.p c.args.m (omega (arith, c.number-number.ensures.value, c.number-number.ensures.positive)) (omega (arith, c.number-number.ensures.value, c.number-number.ensures.in_range)) none)) refl c.self.invariant)
-    c.rouse_from.ensures.sound c.rouse_from.ensures.threads c.rouse_from.ensures.stored c.rouse_from.ensures.waiters
-    (c.rouse_from.ensures.line ∙ ap (λ lines. set lines c.args.p (part_of lines c.args.p ++ c.args.k ∷ [])) (sym (lines_same c.self.inside.line left.queues c.self.inside.threads.queues (ready_same c.self.inside.threads.queues c.args.p (c.args.m + 31) (without c.args.k (part_of (part_of c.self.inside.threads.queues c.args.p) (c.args.m + 31))) (omega (arith, c.number-number.ensures.value, c.number-number.ensures.positive))))))
+    c.rouse.ensures.sound c.rouse.ensures.threads c.rouse.ensures.stored c.rouse.ensures.waiters
+    (c.rouse.ensures.line ∙ ap (λ lines. set lines c.args.p (part_of lines c.args.p ++ c.args.k ∷ [])) (sym (lines_same c.self.inside.line left.queues c.self.inside.threads.queues (ready_same c.self.inside.threads.queues c.args.p (c.args.m + 31) (without c.args.k (part_of (part_of c.self.inside.threads.queues c.args.p) (c.args.m + 31))) (omega (arith, c.number-number.ensures.value, c.number-number.ensures.positive))))))
     (last_used left c.args.p c.args.k (part_of (lines_by c.self.inside.line left.queues) c.args.p) own (λ j inside. c.self.invariant.lined.listed c.args.p j
     (subst (λ lines. is_in j (part_of lines c.args.p) ≡ true) (lines_same c.self.inside.line left.queues c.self.inside.threads.queues (ready_same c.self.inside.threads.queues c.args.p (c.args.m + 31) (without c.args.k (part_of (part_of c.self.inside.threads.queues c.args.p) (c.args.m + 31))) (omega (arith, c.number-number.ensures.value, c.number-number.ensures.positive)))) inside)))
     (line_parts 4611686018427387904 c.self.inside.line c.self.inside.threads c.self.inside.mutexes c.self.inside.conditions c.args.self.now c.args.p c.self.view_is c.self.invariant c.requires.partition).1
@@ -44,7 +44,7 @@ invariant_of-self c =
 pub returns : goal.returns
 returns c =
     let left : ThreadTable = with_queues c.args.p (with_out (MutexWaiters c.args.m) c.args.k) c.self.inside.threads in
-    roused_seen c.self.inside.line c.rouse_from.new.self left c.rouse_from.new.threads c.self.inside.mutexes c.self.inside.conditions _ c.args.p c.args.k (woken_with c.args.values.now) (λ ks. ks ++ c.args.k ∷ [])
+    roused_seen c.self.inside.line c.rouse.new.self left c.rouse.new.threads c.self.inside.mutexes c.self.inside.conditions _ c.args.p c.args.k (woken_with c.args.values.now) (λ ks. ks ++ c.args.k ∷ [])
     (left_seen 4611686018427387904 c.self.inside.line c.self.inside.threads left c.self.inside.mutexes c.self.inside.conditions c.args.self.now c.args.p c.args.m c.args.k (has_queues 4611686018427387904 c.self.inside.line c.self.inside.threads c.self.inside.mutexes c.self.inside.conditions c.args.self.now c.args.p c.self.view_is c.self.invariant c.requires.partition c.parts-parts.ensures.queues) (omega (arith, c.number-number.ensures.value, c.number-number.ensures.positive)) (omega (arith, c.number-number.ensures.value, c.number-number.ensures.in_range)) c.self.view_is refl)
-    c.rouse_from.ensures.threads c.rouse_from.ensures.stored c.rouse_from.ensures.waiters
-    (c.rouse_from.ensures.line ∙ ap (λ lines. set lines c.args.p (part_of lines c.args.p ++ c.args.k ∷ [])) (sym (lines_same c.self.inside.line left.queues c.self.inside.threads.queues (ready_same c.self.inside.threads.queues c.args.p (c.args.m + 31) (without c.args.k (part_of (part_of c.self.inside.threads.queues c.args.p) (c.args.m + 31))) (omega (arith, c.number-number.ensures.value, c.number-number.ensures.positive))))))
+    c.rouse.ensures.threads c.rouse.ensures.stored c.rouse.ensures.waiters
+    (c.rouse.ensures.line ∙ ap (λ lines. set lines c.args.p (part_of lines c.args.p ++ c.args.k ∷ [])) (sym (lines_same c.self.inside.line left.queues c.self.inside.threads.queues (ready_same c.self.inside.threads.queues c.args.p (c.args.m + 31) (without c.args.k (part_of (part_of c.self.inside.threads.queues c.args.p) (c.args.m + 31))) (omega (arith, c.number-number.ensures.value, c.number-number.ensures.positive))))))
