@@ -49,10 +49,7 @@ impl Mutexes {
         requires { p < length roster.now.table.threads }
         ensures { result ≡ option_map state_of (pool_get (part_of roster.now.mutexes p) m) }
     {
-        match slot_in(roster.mutex_slots(p), m) {
-            Some(slot) => slot.state(),
-            None => None,
-        }
+        slot_in(roster.mutex_slots(p), m)?.state()
     }
 
     /// A new mutex, free and consistent, at the least free number; None, and nothing changes, where no number is free

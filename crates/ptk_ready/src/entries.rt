@@ -177,10 +177,8 @@ impl<const LIMIT: u64> LinkedEntries<LIMIT> {
     pub(crate) fn greatest_priority(&self) -> Option<Priority>
         ensures { IsGreatestBit self.now.bitmap (option_map (λ priority. place_of (QueueName.Ready priority)) result) }
     {
-        match greatest_bit(self.bitmap) {
-            Some(i) => Some(Priority::new(i as u8 + 1)),
-            None => None,
-        }
+        let i = greatest_bit(self.bitmap)?;
+        Some(Priority::new(i as u8 + 1))
     }
 
     /// The first thread has left a priority's queue, in which it was alone or not.

@@ -117,10 +117,7 @@ impl Threads {
         requires { p < length self.now.threads }
         ensures { result ≡ thread_in self.now p k }
     {
-        match self.thread_ref(p, k) {
-            Some(thread) => Some(*thread),
-            None => None,
-        }
+        self.thread_ref(p, k).copied()
     }
 
     /// The least free number of a partition; None where no number is free.
@@ -260,10 +257,7 @@ impl Threads {
         requires { p < length self.now.threads }
         ensures { result ≡ option_and_then (λ (thread : Thread). thread.wait) (thread_in self.now p k) }
     {
-        match self.thread_ref(p, k) {
-            Some(thread) => thread.wait,
-            None => None,
-        }
+        self.thread_ref(p, k)?.wait
     }
 
     /// Changes a thread, which is in use. Where that is its wait, the deadline that is kept for it follows.

@@ -39,10 +39,7 @@ impl Slot {
     pub fn thread_ref(&self) -> Option<&Thread>
         ensures { option_copied result ≡ self.now.thread }
     {
-        match &self.thread {
-            Some(thread) => Some(thread),
-            None => None,
-        }
+        self.thread.as_ref()
     }
 
     /// The thread where it lies, of a slot that is not free.
@@ -68,100 +65,70 @@ impl Slot {
     pub fn cpu(&self) -> Option<Cpu>
         ensures { result ≡ option_map (λ (thread : Thread). thread.cpu) self.now.thread }
     {
-        match &self.thread {
-            Some(thread) => Some(thread.cpu),
-            None => None,
-        }
+        Some(self.thread.as_ref()?.cpu)
     }
 
     /// Its thread's policy; None in a free slot.
     pub fn policy(&self) -> Option<Policy>
         ensures { result ≡ option_map (λ (thread : Thread). thread.policy) self.now.thread }
     {
-        match &self.thread {
-            Some(thread) => Some(thread.policy),
-            None => None,
-        }
+        Some(self.thread.as_ref()?.policy)
     }
 
     /// Its thread's assigned priority; None in a free slot.
     pub fn assigned_priority(&self) -> Option<Priority>
         ensures { result ≡ option_map (λ (thread : Thread). thread.priority) self.now.thread }
     {
-        match &self.thread {
-            Some(thread) => Some(thread.priority),
-            None => None,
-        }
+        Some(self.thread.as_ref()?.priority)
     }
 
     /// The ticks that its thread used of a round-robin interval; None in a free slot.
     pub fn used(&self) -> Option<u32>
         ensures { result ≡ option_map (λ (thread : Thread). thread.used) self.now.thread }
     {
-        match &self.thread {
-            Some(thread) => Some(thread.used),
-            None => None,
-        }
+        Some(self.thread.as_ref()?.used)
     }
 
     /// How far its thread is; None in a free slot.
     pub fn phase(&self) -> Option<Phase>
         ensures { result ≡ option_map (λ (thread : Thread). thread.phase) self.now.thread }
     {
-        match &self.thread {
-            Some(thread) => Some(thread.phase),
-            None => None,
-        }
+        Some(self.thread.as_ref()?.phase)
     }
 
     /// Whether the image started its thread; None in a free slot.
     pub fn is_main(&self) -> Option<bool>
         ensures { result ≡ option_map (λ (thread : Thread). thread.is_main) self.now.thread }
     {
-        match &self.thread {
-            Some(thread) => Some(thread.is_main),
-            None => None,
-        }
+        Some(self.thread.as_ref()?.is_main)
     }
 
     /// Whether its thread's number is free at its end; None in a free slot.
     pub fn is_detached(&self) -> Option<bool>
         ensures { result ≡ option_map (λ (thread : Thread). thread.is_detached) self.now.thread }
     {
-        match &self.thread {
-            Some(thread) => Some(thread.is_detached),
-            None => None,
-        }
+        Some(self.thread.as_ref()?.is_detached)
     }
 
     /// The result that a joiner of its thread gets; None in a free slot.
     pub fn result(&self) -> Option<u32>
         ensures { result ≡ option_map (λ (thread : Thread). thread.result) self.now.thread }
     {
-        match &self.thread {
-            Some(thread) => Some(thread.result),
-            None => None,
-        }
+        Some(self.thread.as_ref()?.result)
     }
 
     /// The thread that waits for its thread's end; None in a free slot too.
     pub fn joiner(&self) -> Option<ThreadNo>
         ensures { result ≡ option_and_then (λ (thread : Thread). thread.joiner) self.now.thread }
     {
-        match &self.thread {
-            Some(thread) => thread.joiner,
-            None => None,
-        }
+        self.thread.as_ref()?.joiner
     }
 
     /// What its thread waits for; None in a free slot too.
     pub fn wait(&self) -> Option<Wait>
         ensures { result ≡ option_and_then (λ (thread : Thread). thread.wait) self.now.thread }
     {
-        match &self.thread {
-            Some(thread) => thread.wait,
-            None => None,
-        }
+        self.thread.as_ref()?.wait
     }
 
     /// The slot before it in its queue; None of the first one, and of a slot that lies in no queue.
