@@ -74,20 +74,6 @@ fn is_naming_at(threads: &[Slot], t: ThreadNo, m: MutexNo) -> bool
 fn is_naming(slot: &Slot, m: MutexNo) -> bool
     ensures { result ≡ is_named m (mutex_of_condition_wait (wait_of slot.now.thread)) }
 {
-    let named = mutex_of_condition_wait(slot.wait());
+    let named = slot.wait().and_then(Wait::condition_mutex);
     is_named(m, named)
-}
-
-/// The mutex that a condition wait names; None of any other wait.
-pub(crate) fn mutex_of_condition_wait(wait: Option<Wait>) -> Option<MutexNo>
-    ensures { result ≡ mutex_of_condition_wait wait }
-{
-    match wait? {
-        Wait::ConditionWait(_, m, _) => Some(m),
-        Wait::InputWait
-        | Wait::SleepWait(_)
-        | Wait::JoinWait(_)
-        | Wait::MutexWait(_, _)
-        | Wait::RelockWait(_, _) => None,
-    }
 }

@@ -21,7 +21,7 @@ ghost use Rattle.ptk_mutex.specs.Rises.{MayTake};
 use crate::mutexes::{Mutexes, refresh_after};
 use crate::rise::rise_behind;
 use crate::rising::make;
-use ptk_mutex_priorities::{inheritor_of, kept_reply, slot_in};
+use ptk_mutex_priorities::{inheritor_of, slot_in};
 use ptk_syncs::Roster;
 use ptk_words::{ConditionNo, MutexNo, PartId, ThreadNo, Wait};
 use ptk_words_model::LockMove;
@@ -141,7 +141,7 @@ pub(crate) fn leave(roster: &mut Roster, p: PartId, t: ThreadNo, m: MutexNo, mad
     requires waiter { IsWaiter (locks_at p roster.old) m t }
     ensures { roster.new ≡ put_locks_alone p (after_leave made t m (locks_at p roster.old)) roster.old }
 {
-    let kept = kept_reply(roster.threads().wait(p, t));
+    let kept = roster.threads().wait(p, t).and_then(Wait::kept_reply);
     take_out(roster, p, t, m, made.reply_after(kept));
 }
 

@@ -21,7 +21,7 @@ mod moves;
 mod priorities;
 mod slot;
 
-pub use moves::{free_move, kept_reply};
+pub use moves::free_move;
 pub use priorities::{
     assigned, awaited, effective, inheritor_of, next_in_chain, recompute, thread_slot,
 };

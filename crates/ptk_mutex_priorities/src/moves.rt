@@ -1,9 +1,9 @@
-//! The move of a lock, by what the mutex is, and the reply that a waiter is to have.
+//! The move of a lock, by what the mutex is.
 
 ghost use Rattle.std.specs.Prelude.{◌≡◌};
-ghost use Rattle.ptk_words_model.specs.Mutex.{is_above_ceiling, free_move, own_lock_move, own_trylock_move, count_move, owner_move, kept_reply};
+ghost use Rattle.ptk_words_model.specs.Mutex.{is_above_ceiling, free_move, own_lock_move, own_trylock_move, count_move, owner_move};
 
-use ptk_words::{COUNT_LIMIT, Errno, MutexKind, Owner, Protocol, Soundness, ThreadNo, Wait};
+use ptk_words::{COUNT_LIMIT, Errno, MutexKind, Owner, Protocol, Soundness, ThreadNo};
 use ptk_words_model::LockMove;
 
 /// The moves of a lock by the owner: of a free mutex, of one's own, of another's or nobody's.
@@ -81,21 +81,5 @@ fn count_move(count: u32) -> LockMove
         LockMove::Counts
     } else {
         LockMove::Refuses(Errno::EAGAIN)
-    }
-}
-
-/// The reply that a mutex's waiter is to have once it has the mutex: of a lock 0, of a re-lock what its wait keeps.
-#[inline(always)]
-pub fn kept_reply(wait: Option<Wait>) -> Option<u32>
-    ensures { result ≡ kept_reply wait }
-{
-    match wait {
-        Some(Wait::MutexWait(_, _)) => Some(0),
-        Some(Wait::RelockWait(_, reply)) => reply,
-        Some(Wait::InputWait)
-        | Some(Wait::SleepWait(_))
-        | Some(Wait::JoinWait(_))
-        | Some(Wait::ConditionWait(_, _, _))
-        | None => None,
     }
 }

@@ -5,7 +5,6 @@ ghost use Rattle.ptk_words.specs.declared.threads.Thread.{Thread};
 ghost use Rattle.ptk_clock.specs.Schedule.{with_reply, with_registers};
 ghost use Rattle.ptk_threads.specs.Timed.{TellsDeadline};
 
-use crate::waits::deadline_of;
 use ptk_words::{A0, Cpu, Phase, Policy, Priority, Thread, ThreadNo, Tick, Wait};
 
 /// A change of one thread; the rest of the thread stays.
@@ -108,7 +107,7 @@ impl ThreadChange for ThreadField {
     #[inline(always)]
     fn deadline(&self) -> DeadlineChange {
         match self {
-            ThreadField::Wait(wait) => DeadlineChange::Becomes(deadline_of(wait)),
+            ThreadField::Wait(wait) => DeadlineChange::Becomes(wait.and_then(Wait::deadline)),
             ThreadField::Address(_)
             | ThreadField::Registers(_)
             | ThreadField::Policy(_)

@@ -17,7 +17,7 @@ use crate::slot_table::SlotTable;
 use crate::threads::Threads;
 use ptk_clock::{SharedDeadlines, ThreadDeadlines};
 use ptk_threads_slots::Slot;
-use ptk_words::{PartId, ThreadNo, Tick, Wait};
+use ptk_words::{PartId, ThreadNo, Tick};
 
 impl Threads {
     /// The queue of all partitions' deadlines, by slot: a partition's threads have the slots behind those of the
@@ -77,18 +77,5 @@ pub(crate) fn follow(deadlines: &mut ThreadDeadlines, slots: &SlotTable, p: Part
 fn deadline_at(slots: &[Slot], k: ThreadNo) -> Option<Tick>
     ensures { result ≡ deadline_of_wait (wait_of (pool_get (threads_of slots.now) k)) }
 {
-    match thread_among(slots, k) {
-        Some(thread) => deadline_of(&thread.wait),
-        None => None,
-    }
-}
-
-/// The deadline of a timed wait; None of any other.
-pub(crate) fn deadline_of(wait: &Option<Wait>) -> Option<Tick>
-    ensures { result ≡ deadline_of_wait wait.now }
-{
-    match wait {
-        Some(wait) => wait.deadline(),
-        None => None,
-    }
+    thread_among(slots, k)?.wait?.deadline()
 }

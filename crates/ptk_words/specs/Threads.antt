@@ -1,6 +1,6 @@
 -- How far a thread is, what it waits for, and what it leaves at its number.
 use Rattle.std.specs.Prelude.{Bool, true, false, ◌||◌, if◌then◌else◌, Option, Some, None, is_some}
-use Rattle.ptk_words.specs.Names.{ConditionNumber, MutexNumber, Tick}
+use Rattle.ptk_words.specs.Names.{ConditionNumber, MutexNumber, Tick, Word}
 use Rattle.ptk_words.specs.declared.threads.Thread.{Thread}
 use Rattle.ptk_words.specs.declared.threads.Phase.{Phase}
 use Rattle.ptk_words.specs.declared.threads.Phase.TheVariants.{Normal, Unwinding, Ended}
@@ -29,6 +29,17 @@ abbrev pub mutex_of_wait : Option Wait → Option MutexNumber
 mutex_of_wait (Some (MutexWait m deadline)) = Some m
 mutex_of_wait (Some (RelockWait m reply)) = Some m
 mutex_of_wait wait = None
+
+-- the mutex that a condition wait names (pthread_cond_wait)
+abbrev pub mutex_of_condition_wait : Option Wait → Option MutexNumber
+mutex_of_condition_wait (Some (ConditionWait c m deadline)) = Some m
+mutex_of_condition_wait wait = None
+
+-- what a mutex's waiter is to be told: of a lock 0, of a re-lock its kept reply, none to a cancelled thread; no other wait is for a mutex (pthread_mutex_lock, pthread_cond_wait)
+abbrev pub kept_reply : Option Wait → Option Word
+kept_reply (Some (MutexWait m deadline)) = Some 0
+kept_reply (Some (RelockWait m reply)) = reply
+kept_reply wait = None
 
 -- the deadline of a timed wait (clock_nanosleep, pthread_mutex_timedlock, pthread_cond_timedwait)
 abbrev pub deadline_of_wait : Option Wait → Option Tick

@@ -1,7 +1,7 @@
 //! Threads as plain data.
 
 ghost use Rattle.std.specs.Prelude.{◌≡◌, Some};
-ghost use Rattle.ptk_words.specs.Threads.{condition_of_wait, deadline_of_wait, is_ended, is_normal, is_taken, mutex_of_wait};
+ghost use Rattle.ptk_words.specs.Threads.{condition_of_wait, deadline_of_wait, is_ended, is_normal, is_taken, kept_reply, mutex_of_condition_wait, mutex_of_wait};
 
 use crate::numbers::{ConditionNo, MutexNo, Priority, ThreadNo, Tick};
 use crate::processor::Cpu;
@@ -98,6 +98,36 @@ impl Wait {
             | Wait::JoinWait(_)
             | Wait::MutexWait(_, _)
             | Wait::RelockWait(_, _) => None,
+        }
+    }
+
+    /// The mutex to have again that a condition wait names; None of any other wait (pthread_cond_wait).
+    pub fn condition_mutex(self) -> Option<MutexNo>
+        ensures { result ≡ mutex_of_condition_wait (Some self) }
+    {
+        match self {
+            Wait::ConditionWait(_, m, _) => Some(m),
+            Wait::InputWait
+            | Wait::SleepWait(_)
+            | Wait::JoinWait(_)
+            | Wait::MutexWait(_, _)
+            | Wait::RelockWait(_, _) => None,
+        }
+    }
+
+    /// The reply that a mutex's waiter is to have once it has the mutex: of a lock 0, of a re-lock what its wait keeps;
+    /// None of any other wait (pthread_mutex_lock, pthread_cond_wait).
+    #[inline(always)]
+    pub fn kept_reply(self) -> Option<u32>
+        ensures { result ≡ kept_reply (Some self) }
+    {
+        match self {
+            Wait::MutexWait(_, _) => Some(0),
+            Wait::RelockWait(_, reply) => reply,
+            Wait::InputWait
+            | Wait::SleepWait(_)
+            | Wait::JoinWait(_)
+            | Wait::ConditionWait(_, _, _) => None,
         }
     }
 }

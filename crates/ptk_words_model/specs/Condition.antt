@@ -4,8 +4,8 @@ use Rattle.std.specs.Fn.{iterate}
 use Rattle.std.specs.List.{list_any}
 use Rattle.ptk_words.specs.Names.{ConditionNumber, MutexNumber, ThreadNumber, Tick, Word}
 use Rattle.ptk_words.specs.Pools.{pool_get, pool_set, without, first_of_greatest}
-use Rattle.ptk_words.specs.declared.threads.Wait.{Wait}
 use Rattle.ptk_words.specs.declared.threads.Wait.TheVariants.{ConditionWait}
+pub use Rattle.ptk_words.specs.Threads.{mutex_of_condition_wait}
 use Rattle.ptk_words_model.specs.State.{Condition, Locks, Syncs}
 use Rattle.ptk_words_model.specs.Priority.{thread_at, effective_priority}
 use Rattle.ptk_words_model.specs.Schedule.{with_thread}
@@ -24,11 +24,6 @@ condition_waiters syncs c = waiters_on (pool_get syncs.conditions c)
 -- the condition variable with these waiters
 abbrev pub with_condition_waiters : ConditionNumber → List ThreadNumber → Syncs → Syncs
 with_condition_waiters c waiters syncs = record syncs { conditions = pool_set syncs.conditions c (Some (record { waiters = waiters })) }
-
--- the mutex that a condition wait names (pthread_cond_wait)
-abbrev pub mutex_of_condition_wait : Option Wait → Option MutexNumber
-mutex_of_condition_wait (Some (ConditionWait c m deadline)) = Some m
-mutex_of_condition_wait wait = None
 
 -- the mutex named is m
 abbrev pub is_named : MutexNumber → Option MutexNumber → Bool

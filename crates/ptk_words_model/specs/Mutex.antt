@@ -9,7 +9,8 @@ use Rattle.ptk_words.specs.Faults.{errno_number}
 use Rattle.ptk_words.specs.declared.faults.Errno.TheVariants.{EAGAIN, EBUSY, EDEADLK, EINVAL, EOWNERDEAD, ENOTRECOVERABLE}
 use Rattle.ptk_words.specs.declared.threads.Thread.{Thread}
 use Rattle.ptk_words.specs.declared.threads.Wait.{Wait}
-use Rattle.ptk_words.specs.declared.threads.Wait.TheVariants.{MutexWait, RelockWait}
+use Rattle.ptk_words.specs.declared.threads.Wait.TheVariants.{RelockWait}
+pub use Rattle.ptk_words.specs.Threads.{kept_reply}
 use Rattle.ptk_words.specs.declared.mutexes.MutexKind.{MutexKind}
 use Rattle.ptk_words.specs.declared.mutexes.MutexKind.TheVariants.{Normal, ErrorCheck, Recursive}
 use Rattle.ptk_words.specs.declared.mutexes.Protocol.{Protocol}
@@ -189,12 +190,6 @@ move_reply (Refuses e) reply = option_map (λ _. errno_number e) reply
 abbrev pub wait_of : Option Thread → Option Wait
 wait_of None = None
 wait_of (Some thread) = thread.wait
-
--- what a mutex's waiter is to be told: of a lock 0, of a re-lock its kept reply, none to a cancelled thread; no other wait is for a mutex (pthread_mutex_lock, pthread_cond_wait)
-abbrev pub kept_reply : Option Wait → Option Word
-kept_reply (Some (MutexWait m deadline)) = Some 0
-kept_reply (Some (RelockWait m reply)) = reply
-kept_reply wait = None
 
 -- the waiter is woken, and told of this move what its wait kept (pthread_mutex_unlock)
 abbrev pub handed : LockMove → Thread → Thread
