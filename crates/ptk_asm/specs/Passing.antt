@@ -126,7 +126,7 @@ pub record Tells (e : AsmFault) (f : Fault) : Type 0 where
   pub ordered : e.from ≤ e.to
   pub before_end : e.to ≤ f.span.end
 
--- want of memory, or the first fault
+-- memory ran out, or this is the first fault
 abbrev pub IsFirst : {A : Type 0} → FaultKind → AsmFault → Result A Fault → Type 0
 IsFirst fault.Memory e found = Unit {0}
 IsFirst k e found = (f : Fault) × (Tells e f × (found ≡ Err f))
@@ -143,7 +143,7 @@ pub record IsBehind (text rest : List ℕ) (number : ℕ) (before : List (List �
 abbrev pub IsLaidOut : List ℕ → code.Layout → Type 0
 IsLaidOut text l = (before : List (List ℕ)) × (Reaches l before × (first_pass [] (raw_lines text) ≡ Ok (layout_of before)))
 
--- want of memory, or the first fault of the lines of this text
+-- memory ran out, or this is the first fault of the lines of the text
 abbrev pub IsFirstFault : List ℕ → AsmFault → Type 0
 IsFirstFault text e = IsFirst e.kind e (first_pass [] (raw_lines text))
 
@@ -154,12 +154,12 @@ pub record Names (l : code.Layout) (known : Layout) : Type 0 where
   pub lengths : l.lengths ≡ known.lengths
   pub labels : (q : List ℕ) → place_named l.labels q ≡ named known.labels q
 
--- want of memory, or the first fault
+-- memory ran out, or this is the first fault
 abbrev pub IsSecond : FaultKind → AsmFault → Option Fault → Type 0
 IsSecond fault.Memory e found = Unit {0}
 IsSecond k e found = (f : Fault) × (Tells e f × (found ≡ Some f))
 
--- want of memory, or the fault found in this line, at these bytes
+-- memory ran out, or this is the fault found in the line, at these bytes
 abbrev pub IsAt : FaultKind → AsmFault → Span → Extent → Option FaultKind → Type 0
 IsAt fault.Memory e span place found = Unit {0}
 IsAt k e span place found = (found ≡ Some k) × Tells e (record { span = span; place = place; kind = k })

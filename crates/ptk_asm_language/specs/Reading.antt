@@ -44,17 +44,17 @@ fault_unless None = Some fault.Token
 abbrev pub token_fault : List ℕ → Option FaultKind
 token_fault line = fault_unless (tokens_of line)
 
--- what a refusal tells: the first fault, or want of memory
+-- what a refusal says: the first fault, or that memory ran out
 abbrev pub Refuses : FaultKind → Option FaultKind → Type 0
 Refuses fault.Memory found = Unit {0}
 Refuses k found = found ≡ Some k
 
--- what a refusal tells where the definition answers a value or its first fault: that fault, or want of memory
+-- what a refusal says where the definition gives a value or its first fault: that fault, or that memory ran out
 abbrev pub Answers : {A : Type 0} → FaultKind → Result A FaultKind → Type 0
 Answers fault.Memory found = Unit {0}
 Answers k found = found ≡ Err k
 
--- want of memory, or a fault at these bytes
+-- memory ran out, or the fault is at these bytes
 abbrev pub IsPlaced : FaultKind → LineFault → Extent → Type 0
 IsPlaced fault.Memory e place = Unit {0}
 IsPlaced k e place = fault_spot e ≡ place

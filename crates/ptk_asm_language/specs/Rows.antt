@@ -1,4 +1,4 @@
--- Worked sources and what they come to.
+-- Worked sources and what they give.
 use Rattle.std.specs.Prelude.{ℕ, ◌≡◌, ◌+◌, [], ◌∷◌, ◌++◌, Result, Ok, Err, codes}
 use Rattle.ptk_words.specs.Image.{ImageParts}
 use Rattle.ptk_asm_language.specs.declared.fault.FaultKind.{FaultKind}

@@ -111,7 +111,7 @@ length_in l section.Text = l.text
 length_in l section.Data = l.«data»
 length_in l section.Bss = l.bss
 
--- a section with so many bytes more (own)
+-- a section with n bytes more (own)
 abbrev pub grown : Lengths → Section → ℕ → Lengths
 grown l section.Text n = record l { text = l.text + n }
 grown l section.Data n = record l { «data» = l.«data» + n }
@@ -294,7 +294,7 @@ pub record Layout : Type 0 where
 abbrev pub layout_of : List (List ℕ) → Layout
 layout_of before = record { labels = labels_after before; lengths = lengths_after before; placed = placed_after before }
 
--- the fault of a line, if there is one, or what the lines behind it come to (own)
+-- the fault of a line, if there is one, or the layout of the lines behind it (own)
 abbrev pub at_line : Span → Extent → Option FaultKind → Result Layout Fault → Result Layout Fault
 at_line span place (Some k) rest = Err (record { span = span; place = place; kind = k })
 at_line span place None rest = rest

@@ -288,12 +288,12 @@ operands_of slots tokens = operands_with no_operands slots tokens
 
 -- ---- meaning
 
--- a number in so many bits, as two's complement (RISC-V 1.5)
+-- a number in this many bits, as two's complement (RISC-V 1.5)
 abbrev pub field : ℕ → ℤ → ℕ
 field width (pos n) = n % 2 ^ width
 field width (negsuc n) = 2 ^ width - 1 - n % 2 ^ width
 
--- a distance in so many bits, the lowest of which is 0 (RISC-V 2.3)
+-- a distance in this many bits, the lowest of which is 0 (RISC-V 2.3)
 abbrev pub distance_field : ℕ → ℤ → ℕ
 distance_field width n = field width n / 2 * 2
 

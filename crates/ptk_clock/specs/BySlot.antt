@@ -8,7 +8,7 @@ use Rattle.ptk_clock.specs.Pairs.{Pair}
 abbrev pub deadline_at : List Pair → ℕ → Option Tick
 deadline_at pairs slot = option_map (λ pair. pair.0) (find (λ pair. pair.1 == slot) pairs)
 
--- the deadlines of so many slots from the first on; those of a partition's slots stand by thread number
+-- the deadlines of this many slots from the first on; those of a partition's slots are by thread number
 abbrev pub deadlines_from : ℕ → ℕ → List Pair → List (Option Tick)
 deadlines_from first zero pairs = []
 deadlines_from first (suc n) pairs = deadline_at pairs first ∷ deadlines_from (suc first) n pairs

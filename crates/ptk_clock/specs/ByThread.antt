@@ -52,7 +52,7 @@ pub record AreThreadDeadlines (slots : ℕ) (pairs : List Pair) (partitions : Li
   pub laid : AreLaid 0 slots partitions
   pub least : AreLeast pairs partitions
 
--- slots for so many threads of each partition, from a slot on, and no deadline (own)
+-- slots for these numbers of threads, one for each partition, from a slot on, and no deadline (own)
 abbrev pub laid_from : ℕ → List ℕ → List PartitionSlots
 laid_from start [] = []
 laid_from start (n ∷ ns) = record { first = start; count = n; next = None } ∷ laid_from (start + n) ns

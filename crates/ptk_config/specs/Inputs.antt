@@ -22,7 +22,7 @@ byte_count is = sum_by (λ i. length i.bytes) is
 abbrev pub bytes_in : Items → Checked (List ℕ)
 bytes_in ds = each_after (λ _. integer 0 255) [] ds
 
--- an input at this tick or later, of at most so many bytes (own)
+-- an input at this tick or later, of at most this many bytes (own)
 abbrev pub input : ℕ → ℕ → Data → Checked Input
 input low room d = do
   t ← members d

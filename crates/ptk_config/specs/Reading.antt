@@ -21,7 +21,7 @@ abbrev pub seen : {A B : Type 0} → (A → B) → Checked A → Checked B
 seen view (Ok a) = Ok (view a)
 seen view (Err e) = Err e
 
--- want of memory aside, the result is seen as this value or is this fault
+-- the result is seen as this value or is this fault, unless memory ran out
 abbrev pub MemoryAside : {A B : Type 0} → (A → B) → Checked A → Checked B → Type 0
 MemoryAside view (Ok a) d = d ≡ Ok (view a)
 MemoryAside view (Err e) d = e ≢ Memory → d ≡ Err e
@@ -64,11 +64,11 @@ required key t = ok_or (get_member key t) MissingKey
 abbrev pub number : List ℕ → ℕ → ℕ → Members → Checked ℕ
 number key low high t = required key t >>= integer low high
 
--- the items, if there are so many
+-- the items, if their number is within these bounds
 abbrev pub counted : ℕ → ℕ → Items → Checked Items
 counted low high ds = tested (nat_le low (count_of ds) && nat_le (count_of ds) high) OutOfRange ds
 
--- the array at a key, of so many items
+-- the array at a key, of a number of items within these bounds
 abbrev pub array : List ℕ → ℕ → ℕ → Members → Checked Items
 array key low high t = required key t >>= items >>= counted low high
 

@@ -59,7 +59,7 @@ image_of (Some d) = text d >>= (λ s. tested (nat_lt 0 (length s)) OutOfRange (S
 abbrev pub sixteens : List ℕ → ℕ → ℕ → Members → Checked ℕ
 sixteens key low high t = number key low high t >>= (λ n. tested (n % 16 == 0) OutOfRange n)
 
--- the default stack of each of so many threads, which all lie in the memory (own)
+-- the default stack of each of this many threads, which are all in the memory (own)
 abbrev pub stack : ℕ → ℕ → Members → Checked ℕ
 stack memory threads t = sixteens (codes "stack") 16 65536 t >>= (λ n. tested (nat_le (threads * n) memory) OutOfRange n)
 

@@ -1,4 +1,4 @@
--- What the image of a section amounts to with some files, in words, and which image is refused first.
+-- What the image of a section is with some files, in words, and which image is refused first.
 use Rattle.std.specs.Prelude.{ℕ, ◌+◌, ◌-◌, ◌*◌, nat_le, Bool, true, false, List, [], ◌∷◌, ◌++◌, length, position, if◌then◌else◌, Option, Some, None, Result, Ok, Err, codes, decimal}
 use Rattle.std.specs.List.{concat}
 use Rattle.std.specs.Option.{option_or}
@@ -82,7 +82,7 @@ image_fault_words image.Unfit = codes "the image does not fit into its partition
 abbrev pub bytes_free : List ℕ
 bytes_free = codes " bytes free below the stacks"
 
--- what an image amounts to (own)
+-- what an image is with the files, in words (own)
 abbrev pub outcome_words : Outcome → List ℕ
 outcome_words (Unnamed free) = decimal free ++ bytes_free
 outcome_words Missing = codes "no such file"

@@ -41,7 +41,7 @@ abbrev pub ticks_list : List Window → List ℕ
 ticks_list [] = []
 ticks_list (window ∷ windows) = concat (codes ": " ∷ ticks_words window ∷ map next_ticks_words windows)
 
--- the thousandths of a frame that so many ticks are, cut
+-- the thousandths of a frame that this many ticks are, cut
 abbrev pub thousandths : ℕ → ℕ → ℕ
 thousandths ticks frame = ticks * 1000 / frame
 

@@ -56,7 +56,7 @@ abbrev pub placed_seen : {A B : Type 0} → (A → B) → Placed A → Placed B
 placed_seen view (Ok a) = Ok (view a)
 placed_seen view (Err r) = Err r
 
--- want of memory aside, there is this first fault or none
+-- there is this first fault or none, unless memory ran out
 abbrev pub PlacedAside : {A B : Type 0} → Placed A → Placed B → Type 0
 PlacedAside (Ok a) d = refusal_alone d ≡ Ok tt
 PlacedAside (Err r) d = r.fault ≢ fault.Memory → refusal_alone d ≡ Err r
@@ -65,7 +65,7 @@ PlacedAside (Err r) d = r.fault ≢ fault.Memory → refusal_alone d ≡ Err r
 abbrev pub number_within : TablePlace → Key → ℕ → ℕ → Members → Placed ℕ
 number_within table key low high t = at (place.Key table key) (number (key_name key) low high t)
 
--- the array at a key of a table, of so many items
+-- the array at a key of a table, of a number of items within these bounds
 abbrev pub array_within : TablePlace → Key → ℕ → ℕ → Members → Placed Items
 array_within table key low high t = at (place.Key table key) (array (key_name key) low high t)
 

@@ -15,7 +15,7 @@ use Rattle.ptk_config_places.specs.Placed.{Placed, ◌>>=◌, at, refusal_alone,
 abbrev pub bytes_walk : TablePlace → Items → Placed (Unit {0})
 bytes_walk table ds = each_numbered (λ n _ d. refusal_alone (at (Item table key.Bytes n) (integer 0 255 d))) 1 tt ds
 
--- an input after these, and what it and they come to (own)
+-- an input after these, and what is known of it and them together (own)
 abbrev pub input_walk : ℕ → ℕ → InputsBefore → Data → Placed InputsBefore
 input_walk section number before d = do
   t ← at (Table (Input section number)) (members d)

@@ -43,7 +43,7 @@ next_byte tick console = option_map (λ arrival. arrival.byte) (slice_get (arriv
 abbrev pub without_next : ℕ → Console → Console
 without_next tick console = record console { coming = drop (length (take 1 (arriving tick console))) console.coming }
 
--- a byte, if there is one, into the ring, or lost and counted where the ring has so many (own)
+-- a byte, if there is one, into the ring, or lost and counted where the ring has its limit (own)
 abbrev pub with_any_input : ℕ → Option ℕ → Console → Console
 with_any_input limit None console = console
 with_any_input limit (Some byte) console = with_input limit byte console
@@ -60,7 +60,7 @@ first_byte console = slice_get console.ring 0
 abbrev pub without_byte : Console → Console
 without_byte console = record console { ring = drop 1 console.ring }
 
--- a byte at the end of the output, where it has fewer than so many
+-- a byte at the end of the output, where it has fewer than its limit
 abbrev pub after_put : ℕ → ℕ → Console → Console
 after_put limit byte console = if is_full limit console then console else with_output byte console
 

@@ -18,7 +18,7 @@ bare f rs = record { form = f; operands = record { registers = rs; value = Nothi
 abbrev pub given : Form → List ℕ → ℤ → Statement
 given f rs n = record { form = f; operands = record { registers = rs; value = Given n } }
 
--- the number that so many bits are as two's complement (RISC-V 1.5)
+-- the number that this many bits are as two's complement (RISC-V 1.5)
 abbrev pub signed : ℕ → ℕ → ℤ
 signed width bits = if nat_lt bits (2 ^ (width - 1)) then pos bits else negsuc (2 ^ width - 1 - bits)
 

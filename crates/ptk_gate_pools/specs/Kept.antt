@@ -84,7 +84,7 @@ put_part p s kept =
       limits = kept.limits;
     }
 
--- so many partitions have an entry in every component
+-- each of n partitions has an entry in every component
 pub record AreParts (n : ℕ) (kept : Kept) : Type 0 where
   pub few : n ≤ 8
   pub memory : length kept.memory ≡ n

@@ -13,7 +13,7 @@ pub record MayRun (row : PlainRow) (thread : Thread) : Type 0 where
   pub time : row.tick < 2 ^ 63
   pub room : thread.used + row.most < 2 ^ 32
 
--- so many steps, all plain, have made this of the thread, and have been counted in memory, trace and last step (own)
+-- this many steps, all plain, have made this of the thread, and have been counted in memory, trace and last step (own)
 pub record HasRun (row : PlainRow) (thread : Thread) (steps : ℕ) (after : PlainRow) (made : Thread) : Type 0 where
   pub few : steps ≤ row.most
   pub plain : ArePlain steps (core thread.cpu (part_of row.memories.now row.p))

@@ -50,7 +50,7 @@ refused_trace (Some p) config files name = missing_image config files
 abbrev pub refused_picture : Configuration → List NamedFile → ℕ → ℕ → Option Fault
 refused_picture config files from to = if nat_le to from then Some (NothingFrom from) else missing_image config files
 
--- a fault by what is lacking and by the refusal: want of memory comes only where nothing is lacking, a failed write only where nothing is refused, and any other fault is told as the refusal (own)
+-- a fault by what is lacking and by the refusal: that memory ran out is said only where nothing is lacking, a failed write only where nothing is refused, and any other fault is the refusal's (own)
 pub record IsFaultOf (lack refusal : Option Fault) (fault : Fault) : Type 0 where
   pub memory : fault ≡ NoMemory → lack ≡ None
   pub write : fault ≡ WriteFailed → refusal ≡ None

@@ -15,7 +15,7 @@ abbrev pub raised : ℕ → ℕ → List ℕ → List ℕ
 raised priority zero stored = stored
 raised priority (suc i) stored = slice_set stored i (max (slice_index stored i) priority)
 
--- u and the numbers that at most so many steps of its chain lead to have at least this priority, up to the first that had it before (pthread_mutexattr_getprotocol)
+-- u and the numbers that at most this many steps of its chain lead to have at least this priority, up to the first that had it before (pthread_mutexattr_getprotocol)
 abbrev pub risen : (ℕ → Option ℕ) → ℕ → ℕ → ℕ → List ℕ → List ℕ
 risen next priority zero u stored = raised priority u stored
 risen next priority (suc fuel) u stored =

@@ -21,7 +21,7 @@ part_lines name status steps lost output = head_line name (shown_status status) 
 abbrev pub part_report : World → ℕ → List ℕ
 part_report world p = report_text (section_at world.config p).name (state_of world p)
 
--- the parts of so many sections, in their order
+-- the parts of the first n sections, in their order
 abbrev pub reports_to : World → ℕ → List ℕ
 reports_to world zero = []
 reports_to world (suc n) = reports_to world n ++ part_report world n

@@ -70,7 +70,7 @@ but_next s = record s { account = record (s.account) { next = None } }
 abbrev pub states_in : Whole → List State
 states_in whole = states_to (λ p. state_at p whole) (length whole.accounts)
 
--- the system that these tables and accounts are, after so many ticks
+-- the system that these tables and accounts are, at this tick
 abbrev pub world_of : Configuration → List NamedFile → Whole → ℕ → World
 world_of config files whole tick = record { config = config; files = files; tick = tick; states = states_in whole }
 

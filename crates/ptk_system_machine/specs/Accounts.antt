@@ -31,14 +31,14 @@ duration_of room Idle = 1
 duration_of room Lost = room
 duration_of room (Step cost) = cost
 
--- the account after a decision with this room that came to this: the next decision, and of a step its entry in the trace
+-- the account after a decision with this room that spent this: the next decision, and of a step its entry in the trace
 abbrev pub spent_account : Option ℕ → ℕ → ℕ → Spent → Option Entry → Account → Account
 spent_account next kept room Idle last account = record account { next = next }
 spent_account next kept room Lost last account = record account { next = next; lost = account.lost + room }
 spent_account next kept room (Step cost) last account =
     record account { next = next; steps = account.steps + 1; trace = last_of kept (account.trace ++ option_to_list last) }
 
--- so many ticks are behind the state: at most as many steps, for each tick at most a frame's lost ones, and a partition that has a decision to come is not halted (own)
+-- n ticks are behind the state: it has made at most n steps, has lost at most a frame's ticks for each tick, and is not halted where a decision is to come (own)
 pub record IsBehind (n : ℕ) (state : State) : Type 0 where
   pub steps : state.account.steps ≤ n
   pub lost : state.account.lost ≤ 1000000 * n

@@ -41,7 +41,7 @@ pub record HasDecided (limits : Limits) (tick room : ℕ) (spent : Spent) (old n
   pub told : spent ≡ spent_by_decision limits tick room old
   pub moved : new ≡ after_decision limits tick room old
 
--- in a run to a tick the next decision comes at this one or later: behind the ticks of a decision with this room that came to this and left the partition so; after an idle one the partition may have nothing to do up to then (own)
+-- in a run to a tick the next decision comes at this one or later: behind the ticks of a decision with this room that spent this and left the partition so; after an idle one the partition may have nothing to do up to then (own)
 pub record IsFreeFrom (tick room : ℕ) (spent : Spent) (to : ℕ) (part : Part) (from : ℕ) : Type 0 where
   pub behind : tick + duration_of room spent ≤ from
   pub idle : tick + duration_of room spent < from → (spent ≡ Idle) × (from ≤ to) × IsIdle from part
@@ -63,7 +63,7 @@ pub record IsPlainAt (limits : Limits) (tick : ℕ) (s : Part) : Type 0 where
   pub quiet : IsQuiet limits tick (tick + 1) t thread s
   pub plain : is_plain (core_of thread s) ≡ true
 
--- of so many partitions, in a run from a tick to another, that one's turn begins first, if one begins before the run's last tick; up to there nothing happens to any of them, and up to the stop, which is later, to no other one (own)
+-- of this many partitions, in a run from a tick to another, that one's turn begins first, if one begins before the run's last tick; up to there nothing happens to any of them, and up to the stop, which is later, to no other one (own)
 pub record ComesFirst (plan : WindowPlan) (tick to count : ℕ) (whole : Whole) (first : First) : Type 0 where
   pub order : first.turn.start ≤ first.stop
   pub within : first.stop ≤ to

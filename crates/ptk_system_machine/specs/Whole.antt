@@ -42,7 +42,7 @@ pub record IsWhole (kept : Kept) (accounts : List KeptAccount) : Type 0 where
   pub limits : length kept.limits ≡ length accounts
   pub traces : (p : ℕ) → p < length accounts → (slice_index_or accounts p no_account).kept ≡ (limits_at p kept).trace
 
--- the plan's windows are those of so many partitions, in a frame of a configuration's range
+-- the plan's windows are those of this many partitions, in a frame of a configuration's range
 pub record AreWindowsOf (parts : ℕ) (plan : WindowPlan) : Type 0 where
   pub frame : plan.frame ≤ 1000000
   pub known : All (λ stage. All (λ w. w.partition < parts) stage.windows) plan.stages

@@ -118,7 +118,7 @@ with_policy policy thread = record thread { policy = policy }
 abbrev pub with_priority : ℕ → Thread → Thread
 with_priority priority thread = record thread { priority = priority }
 
--- so many ticks used of a round-robin interval (XSH 2.8.4, SCHED_RR)
+-- these ticks used of a round-robin interval (XSH 2.8.4, SCHED_RR)
 abbrev pub with_used : ℕ → Thread → Thread
 with_used used thread = record thread { used = used }
 

@@ -78,7 +78,7 @@ ends_at ends i = slice_index_or ends i no_ends
 abbrev pub mark_of : List Link → ℕ → Option ℕ
 mark_of links k = option_map place_of (link_in links k).queue
 
--- the list that the links lead along, from a thread on, of at most so many
+-- the list that the links lead along, from a thread on, of at most this many threads
 abbrev pub walk : ℕ → List Link → Option ℕ → List ℕ
 walk zero links at = []
 walk (suc many) links None = []

@@ -19,7 +19,7 @@ abbrev pub busy_by : ℕ → Option Entry → Option Busy
 busy_by until None = None
 busy_by until (Some entry) = Some (record { thread = entry.thread; until = until })
 
--- the step that begins at the tick and leaves this state, of a partition that had made so many before
+-- the step that begins at the tick and leaves this state, of a partition that had made this many steps before
 abbrev pub busy_of : OwnTicks → ℕ → ℕ → State → Option Busy
 busy_of ticks tick steps after = if nat_lt steps after.account.steps then busy_by (step_end ticks tick after) after.part.last else None
 

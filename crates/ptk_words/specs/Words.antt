@@ -21,11 +21,11 @@ complement a = 2 ^ 32 - 1 - a
 abbrev pub signed_value : ℕ → ℤ
 signed_value a = cast_signed w32 a
 
--- the bits from low on, so many of them, as a number (RISC-V 2.2)
+-- the number that the count bits from low on make (RISC-V 2.2)
 abbrev pub bits_from : ℕ → ℕ → ℕ → ℕ
 bits_from low count word = word / 2 ^ low % 2 ^ count
 
--- a number of so many bits as a word, its highest bit copied upward (RISC-V 2.3)
+-- a number of count bits as a word, its highest bit copied upward (RISC-V 2.3)
 abbrev pub sign_extension : ℕ → ℕ → ℕ
 sign_extension count n = if nat_lt n (2 ^ (count - 1)) then n else n + (2 ^ 32 - 2 ^ count)
 
@@ -39,7 +39,7 @@ flag b = if b then 1 else 0
 
 -- ---- words in a list of bytes, least byte first (RISC-V 2.6)
 
--- the bytes at an address, so many of them (RISC-V 2.6)
+-- count bytes from an address on (RISC-V 2.6)
 abbrev pub bytes_at : List ℕ → ℕ → ℕ → List ℕ
 bytes_at memory address count = slice_range memory address (address + count)
 

@@ -45,7 +45,7 @@ RowIsTicks ticks limits tick stop t n thread s =
 abbrev pub NoneComesBefore : ℕ → Console → Type 0
 NoneComesBefore stop console = IfSome (slice_get console.coming 0) (λ a. stop ≤ a.tick) → (k : ℕ) → k < stop → arriving k console ≡ []
 
--- so many ticks and then so many more (own)
+-- n + m ticks are n ticks and then m more (own)
 abbrev pub RowsJoin : OwnTicks → Limits → ℕ → ℕ → ℕ → State → Type 0
 RowsJoin ticks limits tick n m s = after_ticks ticks limits tick (n + m) s ≡ after_ticks ticks limits (tick + n) m (after_ticks ticks limits tick n s)
 

@@ -33,11 +33,11 @@ with_outcome o s =
     let keyed : Part = with_keys (λ keys. record keys { values = o.values }) (with_locks (λ locks. record locks { mutexes = o.mutexes }) s) in
     with_console (λ console. record console { output = o.output }) keyed
 
--- the call of these registers, which are the thread's, puts these values into its a0, a1 and so on, comes to this outcome and does nothing else, at whatever tick (own)
+-- the call of these registers, which are the thread's, puts these values into its a0, a1 and so on, has this outcome and does nothing else, at whatever tick (own)
 abbrev pub RepliesWith : Limits → ThreadNumber → Processor → List Word → Outcome → Part → Type 0
 RepliesWith limits t cpu values o s = (tick : ℕ) → after_call limits tick t cpu (with_cpu t cpu s) ≡ replied t values (with_outcome o (with_cpu t cpu s))
 
--- the next step of the thread is a quiet call of so many ticks, after which it has these registers, and which comes to this outcome, with which each priority is as before (own)
+-- the next step of the thread is a quiet call of these ticks, after which it has these registers, and which has this outcome, with which each priority is as before (own)
 pub record IsReply (limits : Limits) (ticks t : ℕ) (thread : Thread) (after : Processor) (o : Outcome) (s : Part) : Type 0 where
   pub word : word_fetched s.memory thread.cpu.pc ≡ ECALL
   pub cost : ticks ≡ cost_of (register thread.cpu A7)
@@ -50,7 +50,7 @@ pub record IsReply (limits : Limits) (ticks t : ℕ) (thread : Thread) (after : 
 abbrev pub reply_entry : Tick → ThreadNumber → Thread → Processor → Entry
 reply_entry tick t thread after = record { tick = tick; thread = t; pc = thread.cpu.pc; word = ECALL; a0 = register after A0 }
 
--- the partition after such a step of so many ticks: the thread's registers, the ticks that it used, the outcome, and the last step (XSH 2.8.4)
+-- the partition after such a step of these ticks: the thread's registers, the ticks that it used, the outcome, and the last step (XSH 2.8.4)
 abbrev pub after_reply : Tick → ThreadNumber → Ticks → Thread → Processor → Outcome → Part → Part
 after_reply tick t ticks thread after o s = with_row t ticks (core after s.memory) (Some (reply_entry tick t thread after)) (with_outcome o s)
 

@@ -70,7 +70,7 @@ first_half = own_in 40 halves 0
 abbrev pub second_half : OwnTicks
 second_half = own_in 40 halves 1
 
--- the state after so many ticks of a guest without input
+-- the state after n ticks of a guest without input
 abbrev pub run : OwnTicks → Limits → List ℕ → Ticks → State
 run ticks limits image n = alone ticks limits (Some image) [] n
 

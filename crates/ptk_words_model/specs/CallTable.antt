@@ -12,7 +12,7 @@ use Rattle.ptk_words_model.specs.ConditionCalls.{cond_init, cond_destroy, cond_w
 use Rattle.ptk_words_model.specs.CancellationCalls.{cancel, setcancelstate, setcanceltype, testcancel, cleanup_push, cleanup_pop}
 use Rattle.ptk_words_model.specs.KeyCalls.{key_create, key_delete, setspecific, getspecific}
 
--- what a call comes to: every call of the table has its row (own)
+-- the row of a call: every call of the table has one (own)
 abbrev pub answer_of : Call → Row
 answer_of call.Exit = exit_call
 answer_of call.ConsolePut = console_put
@@ -52,7 +52,7 @@ answer_of call.KeyDelete = key_delete
 answer_of call.PthreadSetspecific = setspecific
 answer_of call.PthreadGetspecific = getspecific
 
--- what the call of a number comes to, if it is one's (own, ENOSYS)
+-- the row of the call that a number names, and the reply where it names none (own, ENOSYS)
 abbrev pub answer_to : Option Call → Row
 answer_to None = no_call
 answer_to (Some known) = answer_of known

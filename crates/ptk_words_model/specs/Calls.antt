@@ -1,4 +1,4 @@
--- Calls: what a call is given, what it comes to, and the checks that several calls make.
+-- Calls: what a call is given, its answer, and the checks that several calls make.
 use Rattle.std.specs.Prelude.{ℕ, ◌+◌, ◌%◌, Bool, false, ◌&&◌, List, [], ◌∷◌, length, ◌==◌, nat_le, Option, Some, None, option_map, unwrap_or}
 use Rattle.ptk_words.specs.Names.{ConditionNumber, MutexNumber, Pointer, ThreadNumber, Word}
 use Rattle.ptk_words.specs.Words.{with_word}
@@ -19,7 +19,7 @@ use Rattle.ptk_words.specs.Threads.{is_normal}
 
 -- ---- calls and replies
 
--- the state after a call, with the reply in the caller's registers, and what the call came to
+-- the state after a call, with the reply in the caller's registers, and the reply
 pub record Answer : Type 0 where
   pub part : Part
   pub reply : Reply
@@ -59,7 +59,7 @@ no_call i s = refusal ENOSYS i s
 
 -- ---- checks
 
--- a pointer to so many bytes: a multiple of 4, and the bytes lie in memory (own, EFAULT)
+-- a pointer to this many bytes: a multiple of 4, and the bytes are in memory (own, EFAULT)
 abbrev pub is_pointer : Part → Pointer → ℕ → Bool
 is_pointer s pointer count = pointer % 4 == 0 && nat_le (pointer + count) (length s.memory)
 

@@ -11,7 +11,7 @@ steps_from next u (suc n) = option_and_then next (steps_from next u n)
 abbrev pub Leads : (ℕ → Option ℕ) → ℕ → ℕ → Type 0
 Leads next u t = (n : ℕ) × (steps_from next u n ≡ Some t)
 
--- whether at most so many steps lead from u to t; a chain without repetition has no more steps than numbers
+-- whether at most this many steps lead from u to t; a chain without repetition has no more steps than numbers
 abbrev pub leads_to : (ℕ → Option ℕ) → ℕ → ℕ → ℕ → Bool
 leads_to next t zero u = u == t
 leads_to next t (suc fuel) u = u == t || unwrap_or (option_map (leads_to next t fuel) (next u)) false

@@ -5,7 +5,7 @@ use Rattle.ptk_words.specs.Pools.{without}
 use Rattle.ptk_words.specs.declared.sections.Arrival.{Arrival}
 use Rattle.ptk_words_model.specs.State.{Console}
 
--- the output has so many bytes
+-- the output has its limit of bytes
 abbrev pub is_full : ℕ → Console → Bool
 is_full limit console = nat_le limit (length console.output)
 
@@ -13,7 +13,7 @@ is_full limit console = nat_le limit (length console.output)
 abbrev pub with_output : Byte → Console → Console
 with_output byte console = record console { output = console.output ++ byte ∷ [] }
 
--- a byte into the ring, or lost and counted where it has so many (own)
+-- a byte into the ring, or lost and counted where the ring has its limit (own)
 abbrev pub with_input : ℕ → Byte → Console → Console
 with_input limit byte console =
     if nat_lt (length console.ring) limit

@@ -160,7 +160,7 @@ after_whole_step limits tick r kind s =
     let thread : Option Thread = thread_at after.locks r.number in
     after_interval limits.interval (step_cost kind) r.number thread (record after { last = Some (entry_of tick r kind s.memory thread) })
 
--- what a turn or a decision comes to: what it spends, and the state after it
+-- the result of a turn or a decision: what it spends, and the state after it
 pub record Decision : Type 0 where
   pub spent : Spent
   pub part : Part
@@ -184,7 +184,7 @@ spent_in_turn limits tick room o s = (turn limits tick room o s).spent
 abbrev pub ready_at : Limits → Tick → Part → Part
 ready_at limits tick s = after_choice (after_expiries tick (after_arrivals limits tick s))
 
--- the decision at an own tick with so many ticks to its window's end (own)
+-- the decision at an own tick with this room, the ticks to its window's end (own)
 abbrev pub decision : Limits → Tick → Ticks → Part → Decision
 decision limits tick room s = let ready : Part = ready_at limits tick s in turn limits tick room (runner_of ready) ready
 

@@ -80,7 +80,7 @@ destructor_call values round k = record { round = round; key = k; argument = val
 abbrev pub due_in_round : Keys → List Word → Rounds → Option DestructorCall
 due_in_round keys values rounds = option_map (destructor_call values rounds.round) (find (λ k. nat_lt rounds.passed k) (due_keys keys values))
 
--- the least key, in the next round, of which there are so many (PTHREAD_DESTRUCTOR_ITERATIONS; own)
+-- the least key, in the next round, up to the greatest number of rounds (PTHREAD_DESTRUCTOR_ITERATIONS; own)
 abbrev pub due_in_next_round : Keys → List Word → Rounds → Option DestructorCall
 due_in_next_round keys values rounds =
     if nat_lt rounds.round DESTRUCTOR_ROUNDS then option_map (destructor_call values (suc rounds.round)) (slice_get (due_keys keys values) 0) else None

@@ -88,7 +88,7 @@ start ticks limits image input =
 
 -- ---- ticks
 
--- the last of the list, at most so many
+-- the last of the list, at most this many
 abbrev pub last_of : {A : Type 0} → ℕ → List A → List A
 last_of count xs = drop (length xs - count) xs
 

@@ -90,7 +90,7 @@ is_running t (Some r) = r == t
 abbrev pub after_turn_end : ThreadNumber → Part → Part
 after_turn_end t s = let next : Part = with_locks (at_tail t) s in record next { running = None }
 
--- the thread has used so many ticks of its interval (XSH 2.8.4, SCHED_RR)
+-- the thread has used these ticks of its interval (XSH 2.8.4, SCHED_RR)
 abbrev pub with_used : ThreadNumber → Ticks → Part → Part
 with_used t used s = with_locks (with_thread t (λ thread. record thread { used = used })) s
 

@@ -21,7 +21,7 @@ use Rattle.ptk_words_model.specs.Calls.{Answer, answer, refusal, success, blocke
 
 -- ---- calls and their steps
 
--- a row of the call table: what a call comes to, by its registers and the state
+-- a row of the call table: the answer of a call, by its registers and the state
 abbrev pub Row : Type 0
 Row = Invocation → Part → Answer
 
@@ -88,7 +88,7 @@ cancellation_point rest i s = if is_cancelled s i.caller then cancellation_answe
 abbrev pub thread : ThreadNumber → Gives Thread
 thread t rest i s = (thread_at s.locks t or_refuse ESRCH) rest i s
 
--- so many bytes at a pointer lie in memory (own, EFAULT)
+-- this many bytes at a pointer are in memory (own, EFAULT)
 abbrev pub readable : Pointer → ℕ → Step
 readable pointer count rest i s = (refuse EFAULT unless is_pointer s pointer count) rest i s
 

@@ -21,7 +21,7 @@ newline = 10 ∷ []
 abbrev pub hex_digit : ℕ → Byte
 hex_digit n = if nat_lt n 10 then 48 + n else 87 + n
 
--- the last digits of a number to base 16, so many (own)
+-- the last digits of a number to base 16, this many of them (own)
 abbrev pub hex_digits : ℕ → ℕ → List Byte
 hex_digits zero n = []
 hex_digits (suc k) n = hex_digit (n / 16 ^ k % 16) ∷ hex_digits k n

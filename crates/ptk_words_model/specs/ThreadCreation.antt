@@ -95,7 +95,7 @@ asked_scheduling a =
 abbrev pub is_no_choice : Word → Bool
 is_no_choice word = nat_lt 1 word
 
--- no end of a stack: no multiple of 16, or past the memory of so many bytes (own)
+-- no end of a stack: no multiple of 16, or past the memory of this many bytes (own)
 abbrev pub is_no_stack_top : ℕ → Pointer → Bool
 is_no_stack_top memory top = not (top % 16 == 0) || nat_lt memory top
 
@@ -103,13 +103,13 @@ is_no_stack_top memory top = not (top % 16 == 0) || nat_lt memory top
 abbrev pub given_stack_top : Word → Option Pointer
 given_stack_top word = if word == 0 then None else Some word
 
--- a thread of this scheduling with the rest of what the attributes ask for, in a memory of so many bytes (pthread_create, EINVAL; own)
+-- a thread of this scheduling with the rest of what the attributes ask for, in a memory of this many bytes (pthread_create, EINVAL; own)
 abbrev pub scheduled_creation : Attributes → ℕ → Scheduling → Result Creation Errno
 scheduled_creation a memory scheduling =
     if is_no_stack_top memory a.stack_top then Err EINVAL
     else Ok (record { scheduling = scheduling; is_detached = a.detach == 1; stack_top = given_stack_top a.stack_top })
 
--- what the attributes ask for, in a memory of so many bytes, or their first fault (pthread_create, EINVAL; own)
+-- what the attributes ask for, in a memory of this many bytes, or their first fault (pthread_create, EINVAL; own)
 abbrev pub asked_creation : Attributes → ℕ → Result Creation Errno
 asked_creation a memory =
     if is_no_choice a.detach || is_no_choice a.inherit then Err EINVAL

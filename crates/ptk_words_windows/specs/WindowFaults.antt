@@ -29,7 +29,7 @@ fault_of frame parts w =
 abbrev pub are_overlapping : Window → Window → Bool
 are_overlapping v w = nat_lt v.start (w.start + w.length) && nat_lt w.start (v.start + v.length)
 
--- the first fault of these windows for a frame and so many partitions (own)
+-- the first fault of these windows for a frame and this many partitions (own)
 unfoldable pub window_fault : ℕ → ℕ → List Window → Option WindowFault
 window_fault frame parts [] = Some Empty
 window_fault frame parts (w ∷ ws) =
@@ -48,7 +48,7 @@ is_not_later s u = nat_le u.from s.from
 abbrev pub is_ordered : List Stage → Bool
 is_ordered stages = begins_with_zero stages && not (some_pair is_not_later stages)
 
--- the first fault of these stages for a frame and so many partitions: that of their numbers, then those of their windows, stage by stage (own)
+-- the first fault of these stages for a frame and this many partitions: that of their numbers, then those of their windows, stage by stage (own)
 unfoldable pub plan_fault : ℕ → ℕ → List Stage → Option WindowFault
 plan_fault frame parts stages =
     if is_ordered stages then first_fault (λ stage. window_fault frame parts stage.windows) stages else Some OutOfOrder

@@ -152,12 +152,12 @@ routine_of s = if is_alive (thread_at s.locks 1) then option_map (λ th. th.cpu.
 abbrev pub after_move_of_one : Part → Part
 after_move_of_one s = after_unwinding_move 1 (cleanups_of s 1) s
 
--- the routines that so many moves of thread 1 call, where each routine does this
+-- the routines that this many moves of thread 1 call, where each routine does this
 abbrev pub routines : (Part → Part) → ℕ → Part → List (Option Pointer)
 routines does zero s = []
 routines does (suc n) s = routine_of (after_move_of_one s) ∷ routines does n (does (after_move_of_one s))
 
--- the state after so many moves of thread 1, where each routine does this
+-- the state after this many moves of thread 1, where each routine does this
 abbrev pub after_routines : (Part → Part) → ℕ → Part → Part
 after_routines does zero s = s
 after_routines does (suc n) s = after_routines does n (does (after_move_of_one s))
@@ -166,7 +166,7 @@ after_routines does (suc n) s = after_routines does n (does (after_move_of_one s
 abbrev pub two_threads : Part
 two_threads = part_with [] (thread 5 ∷ thread 5 ∷ []) []
 
--- thread 1 has pushed so many handlers, at 4, 8 and so on
+-- thread 1 has pushed this many handlers, at 4, 8 and so on
 abbrev pub pushed : ℕ → Part
 pushed zero = two_threads
 pushed (suc n) = (cleanup_push (call_with (4 * suc n) 0 0) (pushed n)).part

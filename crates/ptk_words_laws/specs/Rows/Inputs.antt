@@ -12,12 +12,12 @@ use Rattle.ptk_words_laws.specs.Guests.{image_of_words, small, first_half, name,
 abbrev pub arrival : Tick → Byte → Arrival
 arrival tick byte = record { tick = tick; byte = byte }
 
--- a guest that jumps to itself, with a ring of 2 and three bytes of one tick in another's window, after so many ticks
+-- a guest that jumps to itself, with a ring of 2 and three bytes of one tick in another's window, after n ticks
 abbrev pub ring_at : Ticks → State
 ring_at n =
     alone first_half (record small { ring = 2 }) (Some (image_of_words (0x0000006f ∷ []) [])) (arrival 30 97 ∷ arrival 30 98 ∷ arrival 30 99 ∷ []) n
 
--- a guest that gets a byte and exits with 0, after so many ticks
+-- a guest that gets a byte and exits with 0, after n ticks
 abbrev pub get_at : Ticks → State
 get_at n = alone first_half small (Some (image_of_words (0x00200893 ∷ 0x00000073 ∷ 0x00000893 ∷ 0x00000073 ∷ []) [])) (arrival 19 97 ∷ []) n
 

@@ -11,7 +11,7 @@ use Rattle.ptk_words_laws.specs.Rows.Runs.{late_lock_image}
 abbrev pub swapped : OwnTicks
 swapped = own_by 40 (from_frame 0 halves ∷ from_frame 2 (window 0 20 1 ∷ window 20 20 0 ∷ []) ∷ []) 0
 
--- the run of a jump to itself in these windows, after so many ticks
+-- the run of a jump to itself in these windows, after n ticks
 abbrev pub swapped_at : Ticks → State
 swapped_at n = run swapped small (image_of_words (0x0000006f ∷ []) []) n
 

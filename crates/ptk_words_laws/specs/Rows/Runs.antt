@@ -10,7 +10,7 @@ abbrev pub hello_image : List ℕ
 hello_image =
     image_of_words (0x00100893 ∷ 0x06800513 ∷ 0x00000073 ∷ 0x00100893 ∷ 0x06900513 ∷ 0x00000073 ∷ 0x00000893 ∷ 0x00000513 ∷ 0x00000073 ∷ []) []
 
--- the run of the image that puts hi, in a frame of one window, after so many ticks
+-- the run of the image that puts hi, in a frame of one window, after n ticks
 abbrev pub hello_at : Ticks → State
 hello_at n = run (one_window 20 20) small hello_image n
 

@@ -35,7 +35,7 @@ reused_image =
     ∷ 0x00008067 ∷ [])
     []
 
--- the run in which number 1 is taken anew, after so many ticks
+-- the run in which number 1 is taken anew, after n ticks
 abbrev pub reused_at : Ticks → State
 reused_at n = run (one_window 400 400) small reused_image n
 
