@@ -48,6 +48,6 @@ bytes_there l p = take (length (placed_bytes l p)) (drop p.place.offset (content
 abbrev pub IsDecodedThere : Layout → Placed → Type 0
 IsDecodedThere l p = writes_data p.statement.form ≡ false → map decoded (words_in (bytes_there l p)) ≡ map Some (instructions_at l p)
 
--- it is so for each statement of a source (RISC-V 2.2)
+-- the words that are where a statement of a source is decode to its instructions, for each that writes no data (RISC-V 2.2)
 abbrev pub WordsDecode : List ℕ → Type 0
 WordsDecode text = (l : Layout) → first_pass [] (raw_lines text) ≡ Ok l → All (IsDecodedThere l) l.placed

@@ -57,7 +57,7 @@ abbrev pub laid_from : ℕ → List ℕ → List PartitionSlots
 laid_from start [] = []
 laid_from start (n ∷ ns) = record { first = start; count = n; next = None } ∷ laid_from (start + n) ns
 
--- where those slots end (own)
+-- where slots for these numbers of threads, one for each partition, end (own)
 abbrev pub end_from : ℕ → List ℕ → ℕ
 end_from start [] = start
 end_from start (n ∷ ns) = end_from (start + n) ns

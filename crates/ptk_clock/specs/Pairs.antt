@@ -46,7 +46,7 @@ without_slot slot pairs = filter (λ pair. not (pair.1 == slot)) pairs
 abbrev pub is_among : ℕ → ℕ → Pair → Bool
 is_among first last pair = nat_le first pair.1 && nat_le pair.1 last
 
--- its deadline is at most the tick too
+-- the pair is of a slot from the first to the last, and its deadline is at most the tick
 abbrev pub is_due : ℕ → ℕ → Tick → Pair → Bool
 is_due first last now pair = is_among first last pair && nat_le pair.0 now
 

@@ -7,13 +7,13 @@ use Rattle.ptk_impact_windows.specs.declared.difference.Difference.{Difference}
 abbrev pub Agree : WindowPlan → ℕ → WindowPlan → ℕ → ℕ → Type 0
 Agree a p b q tick = (own_ticks a p).end_at tick ≡ (own_ticks b q).end_at tick
 
--- they do not agree at its tick, and its ends are theirs there (own)
+-- the two partitions do not agree at the difference's tick, and its ends are those of their windows there (own)
 pub record IsDifference (a : WindowPlan) (p : ℕ) (b : WindowPlan) (q : ℕ) (difference : Difference) : Type 0 where
   pub differ : ¬ Agree a p b q difference.tick
   pub end : difference.end ≡ (own_ticks a p).end_at difference.tick
   pub other_end : difference.other_end ≡ (own_ticks b q).end_at difference.tick
 
--- its tick is the least at which they do not agree (own)
+-- the difference's tick is the least at which the two partitions do not agree (own)
 pub record IsFirstDifference (a : WindowPlan) (p : ℕ) (b : WindowPlan) (q : ℕ) (difference : Difference) : Type 0 where
   pub is : IsDifference a p b q difference
   pub least : (k : ℕ) → k < difference.tick → Agree a p b q k
@@ -22,7 +22,7 @@ pub record IsFirstDifference (a : WindowPlan) (p : ℕ) (b : WindowPlan) (q : �
 abbrev pub IsBegin : WindowPlan → ℕ → Type 0
 IsBegin plan tick = Any (λ stage. stage.from * plan.frame ≡ tick) plan.stages
 
--- they agree at each tick below this one that comes less than one frame of each plan after the beginning (own)
+-- the two partitions agree at each tick below this one that comes less than one frame of each plan after the beginning (own)
 abbrev pub AgreeNear : WindowPlan → ℕ → WindowPlan → ℕ → ℕ → ℕ → Type 0
 AgreeNear a p b q tick begin = (k : ℕ) → begin ≤ k → k < begin + (a.frame + b.frame) → k < tick → Agree a p b q k
 

@@ -12,7 +12,7 @@ use Rattle.ptk_impact_windows.specs.Agreement.{Agree, IsBegin, IsDifference}
 abbrev pub IsNextTurn : WindowPlan → ℕ → ℕ → Option Turn → Type 0
 IsNextTurn plan p tick turn = MatchOption turn ((own_ticks plan p).next_of tick ≡ None) (IsTurn plan p tick)
 
--- it is the first difference of those from this tick on (own)
+-- the difference's tick is the least from this one on at which the two partitions do not agree (own)
 pub record IsDifferenceFrom (a : WindowPlan) (p : ℕ) (b : WindowPlan) (q from : ℕ) (difference : Difference) : Type 0 where
   pub is : IsDifference a p b q difference
   pub not_before : from ≤ difference.tick

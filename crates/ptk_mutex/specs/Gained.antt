@@ -20,7 +20,7 @@ gained_by threads stored m NoProtocol = 0
 gained_by threads stored m Inherit = greatest (stored_of stored) (awaiting m threads)
 gained_by threads stored m (Protect ceiling) = ceiling
 
--- the same of the mutex at a number, 0 of a free number (pthread_mutexattr_getprotocol)
+-- what the mutex at a number gives its owner by its protocol, 0 of a free number (pthread_mutexattr_getprotocol)
 abbrev pub gained_of : List (Option Thread) → List Priority → MutexNumber → Option Mutex → Priority
 gained_of threads stored m None = 0
 gained_of threads stored m (Some mutex) = gained_by threads stored m mutex.protocol

@@ -18,7 +18,7 @@ use Rattle.ptk_mutex.specs.Tables.{locks_by, put_locks, AreReadyBy}
 abbrev pub syncs_by : ℕ → ThreadTable → List (List ℕ) → List (List (Option Mutex)) → List (List (Option Condition)) → Syncs
 syncs_by p table lines mutexes conditions = record { locks = locks_by p table lines mutexes; conditions = part_of conditions p }
 
--- the same of the roster
+-- what the condition calls read and change of a partition, by the roster (own)
 abbrev pub syncs_at : ℕ → Rostered → Syncs
 syncs_at p roster = syncs_by p roster.table roster.lines roster.mutexes roster.conditions
 
@@ -43,6 +43,7 @@ pub record AreSyncedBy (p : ℕ) (table : ThreadTable) (lines : List (List ℕ))
   pub of_conditions : p < length conditions
   pub waiting : AreWaiting (syncs_by p table lines mutexes conditions)
 
+-- what the condition calls need of the roster at a partition, and what they leave (own)
 abbrev pub AreSynced : ℕ → Rostered → Type 0
 AreSynced p roster = AreSyncedBy p roster.table roster.lines roster.mutexes roster.conditions
 

@@ -15,7 +15,7 @@ use Rattle.ptk_syncs.specs.Waiters.{condition_of}
 abbrev pub locks_by : ℕ → ThreadTable → List (List ℕ) → List (List (Option Mutex)) → Locks
 locks_by p table lines pool = record { threads = part_of table.threads p; line = part_of lines p; mutexes = part_of pool p }
 
--- the same of the roster
+-- what the mutex calls read and change of a partition, by the roster (own)
 abbrev pub locks_at : ℕ → Rostered → Locks
 locks_at p roster = locks_by p roster.table roster.lines roster.mutexes
 
@@ -59,6 +59,7 @@ pub record HasPartBy (p : ℕ) (table : ThreadTable) (lines : List (List ℕ)) (
   pub of_lines : p < length lines
   pub of_mutexes : p < length pool
 
+-- every table of the roster has the partition (own)
 abbrev pub HasPart : ℕ → Rostered → Type 0
 HasPart p roster = HasPartBy p roster.table roster.lines roster.mutexes
 
@@ -81,6 +82,7 @@ pub record AreReadyBy (p : ℕ) (table : ThreadTable) (lines : List (List ℕ)) 
   pub locked : AreLocked (locks_by p table lines pool)
   pub stored : part_of table.stored p ≡ effective_priorities (part_of table.threads p) (part_of pool p)
 
+-- what the mutex calls need of the roster at a partition, and what they leave (own)
 abbrev pub AreReady : ℕ → Rostered → Type 0
 AreReady p roster = AreReadyBy p roster.table roster.lines roster.mutexes
 

@@ -2,6 +2,7 @@
 use Rattle.std.specs.Prelude.{◌≡◌, ◌≢◌, ℕ, ◌<◌, ◌==◌, Bool, true, false, Option, Some, None}
 use Rattle.std.specs.Int.{bit_at}
 
+-- bit i is set (own)
 abbrev pub has_bit : ℕ → ℕ → Bool
 has_bit bits i = bit_at bits i == 1
 

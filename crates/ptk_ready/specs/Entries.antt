@@ -39,6 +39,7 @@ entries links stamps = in_order (stamp_of stamps) (ready_of links)
 abbrev pub of_priority : List ℕ → ℕ → List ℕ → List ℕ
 of_priority stored priority ks = filter (λ k. stored_of stored k == priority) ks
 
+-- there is a thread in the list
 abbrev pub has_any : List ℕ → Bool
 has_any [] = false
 has_any (k ∷ ks) = true

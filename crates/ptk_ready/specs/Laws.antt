@@ -20,6 +20,7 @@ use Rattle.ptk_ready.specs.Partitions.{entries_at, lines_by, AreFiled}
 
 -- ---- filters
 
+-- two tests that agree on the members of a list keep the same of it
 pub filter_agree : (p q : ℕ → Bool) (xs : List ℕ) → ((k : ℕ) → is_in k xs ≡ true → p k ≡ q k) → filter p xs ≡ filter q xs
 filter_agree p q [] h = refl
 filter_agree p q (x ∷ xs) h = rw (h x (in_here x xs), filter_agree p q xs (λ k inside. h k (in_later k x xs inside))) refl
@@ -29,6 +30,7 @@ both_true true true h = (refl, refl)
 both_true true false h = absurd (cc)
 both_true false b h = absurd (cc)
 
+-- a thread of a priority's list has that priority, and is in the whole list
 pub in_priority : (stored : List ℕ) (n k : ℕ) (xs : List ℕ) → is_in k (of_priority stored n xs) ≡ true → (stored_of stored k ≡ n) × (is_in k xs ≡ true)
 in_priority stored n k xs h =
     let kept = any-filter_same (nat_eq k) (λ j. stored_of stored j == n) (stored_of stored k == n) (λ j e. ap (λ i. stored_of stored i == n) (sym (eqb-true k j e))) xs in
@@ -37,9 +39,11 @@ in_priority stored n k xs h =
 
 -- ---- one partition's line
 
+-- the line depends on the first 32 queues alone
 pub line_take : (a b : List (List ℕ)) (stamps : List ℤ) → take 32 a ≡ take 32 b → line_of a stamps ≡ line_of b stamps
 line_take a b stamps same = ap (λ lists. in_order (stamp_of stamps) (filter (λ k. is_in k (joined lists)) (numbers_to 32))) same
 
+-- the list of each of them depends on them alone
 pub list_take : (a b : List (List ℕ)) (i : ℕ) → take 32 a ≡ take 32 b → i < 32 → part_of b i ≡ part_of a i
 list_take a b i same lt = sym (get_or-take 32 b i [] lt) ∙ (ap (λ lists. part_of lists i) (sym same) ∙ get_or-take 32 a i [] lt)
 
@@ -61,6 +65,7 @@ filed_member limit range lists stored stamps bitmap k i filed lt inside = (in_pr
 
 -- ---- the lines of all partitions
 
+-- a partition's line is made of its own queues and stamps
 pub lines_at : {limit : ℕ} (line : List (LinkedEntries limit)) (queues : List (List (List ℕ))) (p : ℕ) → p < length line → part_of (lines_by line queues) p ≡ line_of (part_of queues p) (entries_at line p).stamps
 lines_at [] queues p lt = absurd (omega (arith, lt))
 lines_at (entries ∷ line) [] zero lt = refl
@@ -68,6 +73,7 @@ lines_at (entries ∷ line) [] (suc p) lt = lines_at line [] p (omega (arith, lt
 lines_at (entries ∷ line) (lists ∷ queues) zero lt = refl
 lines_at (entries ∷ line) (lists ∷ queues) (suc p) lt = lines_at line queues p (omega (arith, lt))
 
+-- there is a line for each partition that something is kept of
 pub lines_long : {limit : ℕ} (line : List (LinkedEntries limit)) (queues : List (List (List ℕ))) → length (lines_by line queues) ≡ length line
 lines_long [] queues = refl
 lines_long (entries ∷ line) [] = ap suc (lines_long line [])
@@ -76,12 +82,14 @@ lines_long (entries ∷ line) (lists ∷ queues) = ap suc (lines_long line queue
 first_same : (a b : List (List (List ℕ))) (p : ℕ) → ready_queues a ≡ ready_queues b → take 32 (part_of a p) ≡ take 32 (part_of b p)
 first_same a b p same = sym (get_or-map (take 32) a p []) ∙ (ap (λ queues. part_of queues p) same ∙ get_or-map (take 32) b p [])
 
+-- the lines depend on the queues of ready threads alone
 pub lines_same : {limit : ℕ} (line : List (LinkedEntries limit)) (a b : List (List (List ℕ))) → ready_queues a ≡ ready_queues b → lines_by line a ≡ lines_by line b
 lines_same line a b same =
     ext_get_or [] (lines_by line a) (lines_by line b) (lines_long line a ∙ sym (lines_long line b))
     (λ p lt. (let below : p < length line = omega (arith, lt, lines_long line a) in
     lines_at line a p below ∙ (line_take (part_of a p) (part_of b p) (entries_at line p).stamps (first_same a b p same) ∙ sym (lines_at line b p below))))
 
+-- what holds of the queues beside the line holds of others with the same queues of ready threads, where the threads in the line have the same stored priorities
 pub filed_same : (limit : ℕ) (line : List (LinkedEntries limit)) (a b : ThreadTable)
     → ((p k : ℕ) → is_in k (part_of (lines_by line a.queues) p) ≡ true → stored_of (part_of b.stored p) k ≡ stored_of (part_of a.stored p) k)
     → ready_queues a.queues ≡ ready_queues b.queues → AreFiled limit line a → AreFiled limit line b
@@ -91,6 +99,7 @@ filed_same limit line a b levels same filed = record {
       (λ k inside. levels p k (ap (is_in k) (lines_at line a.queues p lt) ∙ inside)) (filed.each p lt);
 }
 
+-- a thread that is not in a partition's line is in none of its queues of ready threads
 pub filed_apart : (limit : ℕ) (line : List (LinkedEntries limit)) (a : ThreadTable) (p k i : ℕ) → AreFiled limit line a → is_in k (part_of (lines_by line a.queues) p) ≡ false → i < 32 → is_in k (part_of (part_of a.queues p) i) ≡ false
 filed_apart limit line a p k i filed out lt = elim (le_or_gt (length line) p) as (λ _. is_in k (part_of (part_of a.queues p) i) ≡ false) [
   | inl past ↦ ap (λ lists. is_in k (part_of lists i)) (get_or_past a.queues p [] (omega (arith, past, filed.parts)))

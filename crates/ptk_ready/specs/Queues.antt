@@ -8,10 +8,11 @@ use Rattle.ptk_words_parted.specs.Parts.{part_of}
 use Rattle.ptk_threads.specs.Queues.{with_out}
 use Rattle.ptk_threads_slots.specs.declared.link.QueueName.{QueueName}
 
--- by partition: the first 32 queues, one for each priority, and those after them
+-- by partition: the first 32 queues, one for each priority
 abbrev pub ready_queues : List (List (List ℕ)) → List (List (List ℕ))
 ready_queues queues = map (take 32) queues
 
+-- by partition: the queues after the first 32, of those that wait for a mutex or on a condition variable
 abbrev pub waiters_of : List (List (List ℕ)) → List (List (List ℕ))
 waiters_of queues = map (drop 32) queues
 
@@ -29,9 +30,11 @@ AreUnused queues = (p i : ℕ) → i < 32 → part_of (part_of queues p) i ≡ [
 list_ready : (queues : List (List (List ℕ))) (p i : ℕ) → i < 32 → part_of (part_of (ready_queues queues) p) i ≡ part_of (part_of queues p) i
 list_ready queues p i lt = ap (λ lists. part_of lists i) (get_or-map (take 32) queues p []) ∙ get_or-take 32 (part_of queues p) i [] lt
 
+-- where two tables have the same queues of ready threads, these are empty in both or in neither
 pub unused_same : (a b : List (List (List ℕ))) → ready_queues a ≡ ready_queues b → AreUnused a → AreUnused b
 unused_same a b same unused = λ p i lt.
     sym (list_ready b p i lt) ∙ (ap (λ queues. part_of (part_of queues p) i) (sym same) ∙ (list_ready a p i lt ∙ unused p i lt))
 
+-- no thread is in a queue that is empty
 pub unused_apart : (queues : List (List (List ℕ))) (p k i : ℕ) → AreUnused queues → i < 32 → is_in k (part_of (part_of queues p) i) ≡ false
 unused_apart queues p k i unused lt = ap (is_in k) (unused p i lt)

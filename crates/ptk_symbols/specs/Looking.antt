@@ -6,11 +6,11 @@ use Rattle.ptk_symbols.specs.declared.lines.Symbol.{Symbol}
 abbrev pub pair : Symbol → ℕ × List ℕ
 pair s = (s.address, s.name.now)
 
--- those of symbols (own)
+-- the addresses and names of symbols (own)
 abbrev pub pairs : List Symbol → List (ℕ × List ℕ)
 pairs symbols = map pair symbols
 
--- those of a symbol, where there is one (own)
+-- the address and name of a symbol, where there is one (own)
 abbrev pub found_pair : Option Symbol → Option (ℕ × List ℕ)
 found_pair found = option_map pair found
 

@@ -28,7 +28,7 @@ pub record AreQueuesIn (stored line : List ℕ) (mutexes : List (Option Mutex)) 
   pub of_mutexes : (m : ℕ) → 0 < m → m ≤ 64 → part_of queues (m + 31) ≡ waiters_of (pool_get mutexes m)
   pub of_conditions : (c : ℕ) → 0 < c → part_of queues (c + 95) ≡ waiters_on (pool_get conditions c)
 
--- so are those of each partition of the slot table (own)
+-- the queues of each partition of the slot table are those of its line, its mutexes and its condition variables (own)
 pub record AreQueuesOf (roster : Rostered) (queues : List (List (List ℕ))) : Type 0 where
   pub each : (p : ℕ) → AreQueuesIn (part_of roster.table.stored p) (part_of roster.lines p) (part_of roster.mutexes p) (part_of roster.conditions p) (part_of queues p)
 

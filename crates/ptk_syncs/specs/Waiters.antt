@@ -27,16 +27,18 @@ mutexes_in queues slots = numbered_from (λ i slot. with_waiters (part_of queues
 abbrev pub conditions_in : List (List ℕ) → List Bool → List (Option Condition)
 conditions_in queues marks = numbered_from (λ i is_used. condition_if is_used (part_of queues i)) 96 marks
 
--- those of each partition
+-- by partition: the mutexes, with the waiters of their queues
 abbrev pub mutexes_by : List (List (List ℕ)) → List (List (Option Mutex)) → List (List (Option Mutex))
 mutexes_by queues slots = numbered_from (λ p part. mutexes_in (part_of queues p) part) 0 slots
 
+-- by partition: the condition variables whose numbers are marked, with the waiters of their queues
 abbrev pub conditions_by : List (List (List ℕ)) → List (List Bool) → List (List (Option Condition))
 conditions_by queues marks = numbered_from (λ p part. conditions_in (part_of queues p) part) 0 marks
 
--- the mutex with the thread as its last waiter, and without it (pthread_mutex_lock, pthread_mutex_unlock)
+-- the mutex with the thread as its last waiter (pthread_mutex_lock)
 abbrev pub waited_by : ℕ → Mutex → Mutex
 waited_by t mutex = record mutex { waiters = mutex.waiters ++ t ∷ [] }
 
+-- the mutex without the thread among its waiters (pthread_mutex_unlock)
 abbrev pub left_by : ℕ → Mutex → Mutex
 left_by t mutex = record mutex { waiters = without t mutex.waiters }

@@ -24,7 +24,7 @@ abbrev pub activity_of_thread : Bool → Bool → Thread → Activity
 activity_of_thread is_active is_running thread =
     if is_running then Running else (if is_ended thread.phase then Ended else (if is_active then activity_of_wait thread.wait else Halted))
 
--- the same of a number, free where no thread has it
+-- free where no thread has the number, else what the thread does (XSH 2.8.4)
 abbrev pub activity_of_number : Bool → Bool → Option Thread → Activity
 activity_of_number is_active is_running None = Free
 activity_of_number is_active is_running (Some thread) = activity_of_thread is_active is_running thread

@@ -42,7 +42,7 @@ pub record AreLevelsOf (threads : List (Option Thread)) (stored : List ℕ) : Ty
   pub greatest : (k : ℕ) → stored_of stored k ≤ 32
   pub least : (k : ℕ) → IsSome (pool_get threads k) → 0 < stored_of stored k
 
--- so are those of each partition
+-- of each partition's numbers no stored priority is above 32, and that of a thread in use is at least 1 (XSH 2.8.4)
 abbrev pub AreLevels : ThreadTable → Type 0
 AreLevels table = (p : ℕ) → AreLevelsOf (part_of table.threads p) (part_of table.stored p)
 

@@ -23,11 +23,11 @@ pub record Outcome : Type 0 where
   pub output : List Byte
   pub values : List (List Word)
 
--- these three of a partition
+-- the mutexes, the output and the values of a partition
 abbrev pub outcome_of : Part → Outcome
 outcome_of s = record { mutexes = s.mutexes; output = s.console.output; values = s.keys.values }
 
--- the partition with these three
+-- the partition with these mutexes, this output and these values
 abbrev pub with_outcome : Outcome → Part → Part
 with_outcome o s =
     let keyed : Part = with_keys (λ keys. record keys { values = o.values }) (with_locks (λ locks. record locks { mutexes = o.mutexes }) s) in
