@@ -3,6 +3,7 @@ use Rattle.std.specs.Prelude.{ℕ, ◌+◌, ◌-◌, ◌*◌, ◌/◌, ◌%◌, 
 use Rattle.std.specs.Option.{option_or}
 use Rattle.std.specs.Int.{w32, to_le_bytes}
 use Rattle.std.specs.Str.{bytes_eq}
+use Rattle.ptk_words.specs.Results.{◌>>=◌}
 use Rattle.ptk_rv32i_code.specs.declared.instr.Instr.{Instr}
 use Rattle.ptk_rv32i_code.specs.declared.instr.Instr.TheVariants as instr
 use Rattle.ptk_rv32i_code.specs.declared.instr.BranchTest.TheVariants as test
@@ -267,13 +268,6 @@ operand o (slot.Target below above) (Number n) = given_if o (is_within below abo
 operand o (slot.Target below above) (Name n) = Ok (with_value o (Labelled n))
 operand o slot.Label (Name n) = Ok (with_value o (Labelled n))
 operand o s t = Err fault.Token
-
--- a first fault stays
-infixl 10 ◌>>=◌
--- the next step on what the first came to; a first fault stays (own)
-abbrev pub ◌>>=◌ : {A B : Type 0} → Result A FaultKind → (A → Result B FaultKind) → Result B FaultKind
-(Ok x) >>= f = f x
-(Err e) >>= f = Err e
 
 -- the operands with those that tokens give in these places, or the first fault from the left (own)
 abbrev pub operands_with : Operands → List Slot → List Token → Result Operands FaultKind

@@ -3,18 +3,13 @@ use Rattle.std.specs.Prelude.{ℕ, ◌+◌, ℤ, pos, negsuc, List, [], ◌∷�
 use Rattle.std.specs.List.{list_any}
 use Rattle.std.specs.Str.{bytes_eq}
 use Rattle.toml.specs.Data.{Data, as_integer, as_str, as_array, as_table, Items, no_items, item, Members, no_members, member, get_member}
+pub use Rattle.ptk_words.specs.Results.{◌>>=◌}
 use Rattle.ptk_config.specs.declared.fault.ConfigFault.{ConfigFault}
 use Rattle.ptk_config.specs.declared.fault.ConfigFault.TheVariants.{MissingKey, WrongType, OutOfRange, UnknownKey, Memory}
 
 -- a value, or the first fault
 abbrev pub Checked : Type 0 → Type 0
 Checked A = Result A ConfigFault
-
-infixl 10 ◌>>=◌
--- the next check comes only where the one before found no fault
-abbrev pub ◌>>=◌ : {A B E : Type 0} → Result A E → (A → Result B E) → Result B E
-Ok a >>= f = f a
-Err e >>= f = Err e
 
 -- what the value is seen as, or the same fault
 abbrev pub seen : {A B : Type 0} → (A → B) → Checked A → Checked B

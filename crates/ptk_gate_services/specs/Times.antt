@@ -6,7 +6,7 @@ use Rattle.ptk_words.specs.Words.{with_bytes}
 use Rattle.ptk_words.specs.declared.threads.Wait.TheVariants.{SleepWait}
 use Rattle.ptk_words_model.specs.State.{Part}
 use Rattle.ptk_words_model.specs.Time.{time_bytes}
-use Rattle.ptk_words_model.specs.Steps.{Row, ◌>>=◌, ◌>>◌, registers, when◌finish◌, succeed, block_in}
+use Rattle.ptk_words_model.specs.Steps.{Row, ◌passed_to◌ as ◌>>=◌, ◌>>◌, registers, when◌finish◌, succeed, block_in}
 
 -- the seconds stored at the pointer, low word first (clock_gettime; own)
 abbrev pub with_seconds : Pointer → ℕ → Part → Part

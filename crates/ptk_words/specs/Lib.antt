@@ -7,3 +7,4 @@ pub mod Calls
 pub mod Image
 pub mod Ranges
 pub mod Threads
+pub mod Results

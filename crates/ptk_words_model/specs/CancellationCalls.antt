@@ -12,7 +12,7 @@ use Rattle.ptk_words.specs.Threads.{is_ended}
 use Rattle.ptk_words_model.specs.Withdrawal.{after_cancelled_wait}
 use Rattle.ptk_words_model.specs.ThreadCreation.{new_cancellation}
 use Rattle.ptk_words_model.specs.Calls.{refusal, success, is_cancelled}
-use Rattle.ptk_words_model.specs.Steps.{Row, ◌>>=◌, ◌>>◌, registers, state, refuse◌when◌, when◌finish◌, cancellation_point, thread, change, succeed, succeed_with}
+use Rattle.ptk_words_model.specs.Steps.{Row, ◌passed_to◌ as ◌>>=◌, ◌>>◌, registers, state, refuse◌when◌, when◌finish◌, cancellation_point, thread, change, succeed, succeed_with}
 
 -- the request is pending, and takes a thread out of its wait where it acts (pthread_cancel, XSH 2.9.5.2)
 abbrev pub cancel : Row

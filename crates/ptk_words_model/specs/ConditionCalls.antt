@@ -11,7 +11,7 @@ use Rattle.ptk_words_model.specs.Mutex.{mutex_at, owns, relock_move, move_reply,
 use Rattle.ptk_words_model.specs.Condition.{condition_waiters, names_another, after_condition_wait, after_signal, after_broadcast}
 use Rattle.ptk_words_model.specs.Time.{timespec_at, is_timespec, deadline_of}
 use Rattle.ptk_words_model.specs.Calls.{with_stored, with_pool_condition}
-use Rattle.ptk_words_model.specs.Steps.{Row, Step, ◌>>=◌, ◌>>◌, registers, state, refuse◌when◌, refuse◌unless◌, ◌or_refuse◌, when◌finish◌, cancellation_point, readable, mutex_named, condition_named, change, change_locks, change_syncs, succeed, reply_if_any, block}
+use Rattle.ptk_words_model.specs.Steps.{Row, Step, ◌passed_to◌ as ◌>>=◌, ◌>>◌, registers, state, refuse◌when◌, refuse◌unless◌, ◌or_refuse◌, when◌finish◌, cancellation_point, readable, mutex_named, condition_named, change, change_locks, change_syncs, succeed, reply_if_any, block}
 
 -- a condition variable at the least free number; the old word is not looked at (pthread_cond_init, ENOMEM; own)
 abbrev pub cond_init : Row

@@ -6,7 +6,7 @@ use Rattle.ptk_words.specs.declared.faults.Status.TheVariants.{Exited}
 use Rattle.ptk_words.specs.declared.threads.Wait.TheVariants.{InputWait}
 use Rattle.ptk_words_model.specs.State.{with_console}
 use Rattle.ptk_words_model.specs.Console.{is_full, with_output, with_waiter}
-use Rattle.ptk_words_model.specs.Steps.{Row, ◌>>=◌, ◌>>◌, registers, state, refuse◌when◌, cancellation_point, change, succeed, succeed_with, block_in, halt}
+use Rattle.ptk_words_model.specs.Steps.{Row, ◌passed_to◌ as ◌>>=◌, ◌>>◌, registers, state, refuse◌when◌, cancellation_point, change, succeed, succeed_with, block_in, halt}
 
 -- the partition exits with the low 8 bits of the code (own)
 abbrev pub exit_call : Row

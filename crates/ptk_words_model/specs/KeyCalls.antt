@@ -4,7 +4,7 @@ use Rattle.ptk_words.specs.Pools.{pool_set, least_free}
 use Rattle.ptk_words.specs.declared.faults.Errno.TheVariants.{EAGAIN, EINVAL}
 use Rattle.ptk_words_model.specs.State.{with_keys}
 use Rattle.ptk_words_model.specs.Keys.{is_key, with_values, with_key, specific}
-use Rattle.ptk_words_model.specs.Steps.{Row, ◌>>=◌, ◌>>◌, registers, state, refuse◌unless◌, ◌or_refuse◌, change, succeed, succeed_with}
+use Rattle.ptk_words_model.specs.Steps.{Row, ◌passed_to◌ as ◌>>=◌, ◌>>◌, registers, state, refuse◌unless◌, ◌or_refuse◌, change, succeed, succeed_with}
 
 -- a key with this destructor, or 0 for none, at the least free number (pthread_key_create, EAGAIN; own)
 abbrev pub key_create : Row

@@ -10,6 +10,7 @@ pub mod Withdrawal
 pub mod Unwinding
 pub mod Time
 pub mod Calls
+pub mod CallRows
 pub mod Steps
 pub mod ConsoleCalls
 pub mod ThreadCreation

@@ -19,7 +19,7 @@ use Rattle.ptk_words_model.specs.Condition.{names_mutex}
 use Rattle.ptk_words_model.specs.Time.{Timespec, timespec_at, is_timespec, deadline_of}
 use Rattle.ptk_words_model.specs.ThreadCreation.{is_priority}
 use Rattle.ptk_words_model.specs.Calls.{with_stored, with_pool_mutex}
-use Rattle.ptk_words_model.specs.Steps.{Row, ◌>>=◌, ◌>>◌, registers, state, refuse◌when◌, refuse◌unless◌, ◌or_refuse◌, readable, mutex_named, change, change_locks, succeed, reply_if_any}
+use Rattle.ptk_words_model.specs.Steps.{Row, ◌passed_to◌ as ◌>>=◌, ◌>>◌, registers, state, refuse◌when◌, refuse◌unless◌, ◌or_refuse◌, readable, mutex_named, change, change_locks, succeed, reply_if_any}
 
 -- PTHREAD_MUTEX_NORMAL and DEFAULT 0, ERRORCHECK 1, RECURSIVE 2 (pthread_mutexattr_settype; own)
 abbrev pub kind_numbered : Word → Option MutexKind

@@ -16,32 +16,10 @@ use Rattle.ptk_words_model.specs.Schedule.{with_thread}
 use Rattle.ptk_words_model.specs.Mutex.{mutex_at, new_mutex}
 use Rattle.ptk_words_model.specs.Unwinding.{after_unwinding_start, without_thread}
 use Rattle.ptk_words_model.specs.declared.Invocation.{Invocation}
+pub use Rattle.ptk_words_model.specs.CallRows.{Row, Step, Gives, ◌passed_to◌, ◌>>◌}
+use Rattle.ptk_words_model.specs.CallRows.{◌passed_to◌ as ◌>>=◌}
 use Rattle.ptk_words_model.specs.declared.Reply.TheVariants.{Halted, Unwinding}
-use Rattle.ptk_words_model.specs.Calls.{Answer, answer, refusal, success, blocked, told, blocked_in, is_pointer, is_cancelled, cancellation_answer, with_pool_mutex, with_pool_condition, with_stored}
-
--- ---- calls and their steps
-
--- a row of the call table: the answer of a call, by its registers and the state
-abbrev pub Row : Type 0
-Row = Invocation → Part → Answer
-
--- one step of a call, before the rest of it
-abbrev pub Step : Type 0
-Step = Row → Row
-
--- a step that gives the rest a value
-abbrev pub Gives : Type 0 → Type 0
-Gives A = (A → Row) → Row
-
-infixl 10 ◌>>=◌
-infixl 10 ◌>>◌
--- the step, then the rest with its value
-abbrev pub ◌>>=◌ : {A : Type 0} → Gives A → (A → Row) → Row
-step >>= rest = step rest
-
--- the step, then the rest
-abbrev pub ◌>>◌ : Step → Row → Row
-step >> rest = step rest
+use Rattle.ptk_words_model.specs.Calls.{answer, refusal, success, blocked, told, blocked_in, is_pointer, is_cancelled, cancellation_answer, with_pool_mutex, with_pool_condition, with_stored}
 
 -- ---- steps that read
 

@@ -9,7 +9,7 @@ use Rattle.ptk_words_model.specs.State.{Locks, Part, with_locks}
 use Rattle.ptk_words_model.specs.Schedule.{at_tail, at_head, is_running}
 use Rattle.ptk_words_model.specs.Mutex.{owns_raising}
 use Rattle.ptk_words.specs.Threads.{is_ended, is_taken}
-use Rattle.ptk_words_model.specs.Steps.{Row, ◌>>=◌, ◌>>◌, registers, state, refuse◌when◌, refuse◌unless◌, ◌or_refuse◌, valid, when◌finish◌, cancellation_point, thread, change, change_thread, free_number, succeed, succeed_with, succeed_with_both, block_in, unwind}
+use Rattle.ptk_words_model.specs.Steps.{Row, ◌passed_to◌ as ◌>>=◌, ◌>>◌, registers, state, refuse◌when◌, refuse◌unless◌, ◌or_refuse◌, valid, when◌finish◌, cancellation_point, thread, change, change_thread, free_number, succeed, succeed_with, succeed_with_both, block_in, unwind}
 use Rattle.ptk_words_model.specs.ThreadCreation.{policy_of, policy_number, is_priority, creation_at, created_thread, with_new_thread}
 
 -- a new thread with attributes, a start routine and its argument: its number, the least free one, in a1 (pthread_create, EAGAIN)

@@ -4,6 +4,7 @@ use Rattle.ptk_words.specs.Names.{ThreadNumber, Priority, Pointer, Word}
 use Rattle.ptk_words.specs.Words.{word_at}
 use Rattle.ptk_words.specs.declared.TheConstants.{SP}
 use Rattle.ptk_words.specs.Pools.{pool_set}
+use Rattle.ptk_words.specs.Results.{◌>>=◌}
 use Rattle.ptk_words.specs.Processor.{Processor, with_register}
 use Rattle.ptk_words.specs.declared.faults.Errno.{Errno}
 use Rattle.ptk_words.specs.declared.faults.Errno.TheVariants.{EFAULT, EINVAL, ENOTSUP}
@@ -69,12 +70,6 @@ attributes_at s pointer =
 -- the attributes object at the pointer, all words 0 at pointer 0 (pthread_create; own, EFAULT)
 abbrev pub readable_attributes : Part → Pointer → Result Attributes Errno
 readable_attributes s pointer = if pointer == 0 || is_pointer s pointer 20 then Ok (attributes_at s pointer) else Err EFAULT
-
-infixl 10 ◌>>=◌
--- the next check comes only where the one before found no fault
-abbrev pub ◌>>=◌ : {A B : Type 0} → Result A Errno → (A → Result B Errno) → Result B Errno
-Ok a >>= f = f a
-Err e >>= f = Err e
 
 -- the value, or this error where there is none
 abbrev pub or_error : {A : Type 0} → Option A → Errno → Result A Errno

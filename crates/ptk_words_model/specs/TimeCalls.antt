@@ -5,7 +5,7 @@ use Rattle.ptk_words.specs.Words.{with_bytes}
 use Rattle.ptk_words.specs.declared.faults.Errno.TheVariants.{EINVAL}
 use Rattle.ptk_words.specs.declared.threads.Wait.TheVariants.{SleepWait}
 use Rattle.ptk_words_model.specs.Time.{timespec_at, time_bytes, is_timespec, deadline_of}
-use Rattle.ptk_words_model.specs.Steps.{Row, ◌>>=◌, ◌>>◌, registers, state, refuse◌when◌, refuse◌unless◌, when◌finish◌, cancellation_point, readable, change, succeed, block_in}
+use Rattle.ptk_words_model.specs.Steps.{Row, ◌passed_to◌ as ◌>>=◌, ◌>>◌, registers, state, refuse◌when◌, refuse◌unless◌, when◌finish◌, cancellation_point, readable, change, succeed, block_in}
 
 -- neither CLOCK_REALTIME, 0, nor CLOCK_MONOTONIC, 1 (clock_gettime, EINVAL; own)
 abbrev pub is_no_clock : Word → Bool
