@@ -17,6 +17,42 @@ use std::alloc::Global;
 use std::marker::Model;
 use toml::{Table, Value};
 
+/// The least number of bytes of a partition's memory.
+const MEMORY_FROM: u64 = 4096;
+
+/// The greatest number of bytes of a partition's memory.
+const MEMORY_TO: u64 = 1_048_576;
+
+/// The greatest number of threads.
+const THREADS_TO: u64 = 32;
+
+/// The least number of bytes of a default stack.
+const STACK_FROM: u64 = 16;
+
+/// The greatest number of bytes of a default stack.
+const STACK_TO: u64 = 65536;
+
+/// The greatest number of mutexes.
+const MUTEXES_TO: u64 = 64;
+
+/// The greatest number of condition variables.
+const CONDITIONS_TO: u64 = 32;
+
+/// The greatest number of keys.
+const KEYS_TO: u64 = 32;
+
+/// The greatest number of ticks of a round-robin interval.
+const INTERVAL_TO: u64 = 1_000_000;
+
+/// The greatest number of bytes that the input ring keeps.
+const RING_TO: u64 = 256;
+
+/// The greatest number of bytes of output that are kept.
+const OUTPUT_TO: u64 = 65536;
+
+/// The greatest number of entries that the trace keeps.
+const TRACE_TO: u64 = 1024;
+
 /// What a partition is made from.
 pub struct Section {
     name: String,
@@ -175,7 +211,7 @@ pub fn stack(table: &Table, memory: u64, threads: u64) -> Result<u64, ConfigFaul
     ensures value { result ≡ stack memory threads (table_view table.now) }
     ensures range { IfOk result (λ n. (16 ≤ n) × (n ≤ 65536) × (n % 16 ≡ 0) × (threads * n ≤ memory)) }
 {
-    let size = sixteens(table, "stack", 16, 65536)?;
+    let size = sixteens(table, "stack", STACK_FROM, STACK_TO)?;
     if threads * size <= memory {
         Ok(size)
     } else {
@@ -188,16 +224,16 @@ fn read_limits(table: &Table) -> Result<Limits, ConfigFault>
     ensures value { result ≡ limits (table_view table.now) }
     ensures ranges { IfOk result IsWithinLimits }
 {
-    let memory = sixteens(table, "memory", 4096, 1_048_576)?;
-    let threads = number(table, "threads", 1, 32)?;
+    let memory = sixteens(table, "memory", MEMORY_FROM, MEMORY_TO)?;
+    let threads = number(table, "threads", 1, THREADS_TO)?;
     let stack = stack(table, memory, threads)?;
-    let mutexes = number(table, "mutexes", 0, 64)?;
-    let conditions = number(table, "conds", 0, 32)?;
-    let keys = number(table, "keys", 0, 32)?;
-    let interval = number(table, "interval", 1, 1_000_000)?;
-    let ring = number(table, "ring", 1, 256)?;
-    let output = number(table, "output", 0, 65536)?;
-    let trace = number(table, "trace", 0, 1024)?;
+    let mutexes = number(table, "mutexes", 0, MUTEXES_TO)?;
+    let conditions = number(table, "conds", 0, CONDITIONS_TO)?;
+    let keys = number(table, "keys", 0, KEYS_TO)?;
+    let interval = number(table, "interval", 1, INTERVAL_TO)?;
+    let ring = number(table, "ring", 1, RING_TO)?;
+    let output = number(table, "output", 0, OUTPUT_TO)?;
+    let trace = number(table, "trace", 0, TRACE_TO)?;
     Ok(Limits {
         memory: memory as u32,
         threads: threads as u32,
