@@ -146,7 +146,7 @@ pub due_parts : (first last : ℕ) (now : Tick) (a : Pair) → is_due first last
 due_parts first last now a due = record { low = grind (arith, nat_tests); high = grind (arith, nat_tests); due = grind (arith, nat_tests) }
 
 -- by thread number as by slot
-number_not_before : (first q : ℕ) (a : Pair) (b : Expiry) → b.thread ≡ suc (q - first) → first ≤ q → first ≤ a.1 → is_before (b.deadline, q) a ≡ false → withdrawal.is_before b (expiry_from first a) ≡ false
+number_not_before : (first q : ℕ) (a : Pair) (b : Expiry) → b.thread ≡ suc (q - first) → first ≤ q → first ≤ a.1 → is_before (b.deadline, q) a ≡ false → withdrawal.expires_before b (expiry_from first a) ≡ false
 number_not_before first q a b number low from not_before = grind (arith, nat_tests)
 
 none_next : (first last n : ℕ) (now : Tick) (xs : List Pair) → last + 1 ≡ first + n → least_due first last now xs ≡ None → IsNoneDue now (deadlines_from first n xs)

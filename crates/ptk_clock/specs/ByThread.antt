@@ -26,10 +26,10 @@ is_reached now (Some deadline) = nat_le deadline now
 -- ---- the slots of the partitions
 
 -- the first slot of a partition: the lengths of the lists before its own, added (own)
-abbrev pub first_slot : ℕ → List (List (Option Tick)) → ℕ
+abbrev pub first_slot : {A : Type 0} → ℕ → List (List A) → ℕ
 first_slot p [] = 0
-first_slot zero (ds ∷ parts) = 0
-first_slot (suc p) (ds ∷ parts) = length ds + first_slot p parts
+first_slot zero (part ∷ parts) = 0
+first_slot (suc p) (part ∷ parts) = length part + first_slot p parts
 
 -- by partition and thread number: the deadlines of each partition's slots
 abbrev pub deadlines_by_partition : List PartitionSlots → List Pair → List (List (Option Tick))

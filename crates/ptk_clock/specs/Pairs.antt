@@ -18,7 +18,7 @@ slots_of pairs = map (λ pair. pair.1) pairs
 
 -- ---- the order
 
--- before another by (deadline, slot)
+-- one pair is before another, by the deadline and then by the slot
 abbrev pub is_before : Pair → Pair → Bool
 is_before a b = nat_lt a.0 b.0 || (a.0 == b.0 && nat_lt a.1 b.1)
 

@@ -16,7 +16,7 @@ pub record Section : Type 0 where
   pub limits : Limits
   pub input : List Arrival
 
--- no section
+-- the section past the last: no name, no image, numbers of 0 and no input (own)
 abbrev pub no_section : Section
 no_section = record {
   name = [];

@@ -48,9 +48,9 @@ abbrev pub with_any_input : ℕ → Option ℕ → Console → Console
 with_any_input limit None console = console
 with_any_input limit (Some byte) console = with_input limit byte console
 
--- the byte that comes next has arrived
-abbrev pub after_next : ℕ → ℕ → Console → Console
-after_next limit tick console = with_any_input limit (next_byte tick console) (without_next tick console)
+-- the console after the byte that comes next has arrived
+abbrev pub after_next_byte : ℕ → ℕ → Console → Console
+after_next_byte limit tick console = with_any_input limit (next_byte tick console) (without_next tick console)
 
 -- the first byte of the ring
 abbrev pub first_byte : Console → Option ℕ

@@ -2,7 +2,7 @@
 
 ghost use Rattle.std.specs.Prelude.{◌≡◌, ◌<◌, ◌+◌, ◌^◌, not, length, is_some, option_map, slice_get, IfOk};
 ghost use Rattle.ptk_words_model.specs.Console.{is_full, with_input, with_waiter, without_waiter};
-ghost use Rattle.ptk_console.specs.ConsoleTable.{IsNotWaiting, after_next, after_put, first_byte, fresh_console, next_byte, without_byte, without_next};
+ghost use Rattle.ptk_console.specs.ConsoleTable.{IsNotWaiting, after_next_byte, after_put, first_byte, fresh_console, next_byte, without_byte, without_next};
 
 use circular_buffer::HeapCircularBuffer;
 use ptk_words::{Arrival, Limits, ThreadNo, Tick};
@@ -100,7 +100,7 @@ impl PartitionConsole {
     /// Puts the next input byte into the ring, or loses and counts it, if it comes at the tick or before.
     pub fn arrive(&mut self, tick: Tick) -> bool
         ensures told { result ≡ is_some (next_byte tick self.old.console) }
-        ensures moved { self.new ≡ record self.old { console = after_next self.old.limits.ring tick self.old.console } }
+        ensures moved { self.new ≡ record self.old { console = after_next_byte self.old.limits.ring tick self.old.console } }
     {
         let _counted = self.dropped;
         match self.next_arrival(tick) {

@@ -2,7 +2,7 @@
 
 ghost use Rattle.std.specs.Prelude.{◌≡◌, ◌<◌, not, length, map, is_some, option_map, slice_get, IfOk};
 ghost use Rattle.ptk_words_model.specs.Console.{is_full, with_waiter, without_waiter};
-ghost use Rattle.ptk_console.specs.ConsoleTable.{IsNotWaiting, after_next, after_put, console_at, first_byte, fresh_console, console_limits_at, next_byte, put_console, without_byte, without_next};
+ghost use Rattle.ptk_console.specs.ConsoleTable.{IsNotWaiting, after_next_byte, after_put, console_at, first_byte, fresh_console, console_limits_at, next_byte, put_console, without_byte, without_next};
 
 use crate::console::PartitionConsole;
 use ptk_words::{Arrival, Limits, PartId, ThreadNo, Tick};
@@ -87,7 +87,7 @@ impl Consoles {
     pub fn arrive(&mut self, p: PartId, tick: Tick) -> bool
         requires { p < length self.old.consoles }
         ensures told { result ≡ is_some (next_byte tick (console_at self.old p)) }
-        ensures moved { self.new ≡ put_console p (after_next (console_limits_at self.old p).ring tick (console_at self.old p)) self.old }
+        ensures moved { self.new ≡ put_console p (after_next_byte (console_limits_at self.old p).ring tick (console_at self.old p)) self.old }
     {
         let console = &mut self.items[p.index()];
         console.arrive(tick)

@@ -13,7 +13,7 @@ use Rattle.ptk_asm_language.specs.declared.place.Place.{Place}
 use Rattle.ptk_asm_language.specs.Source.{longest}
 use Rattle.ptk_disasm.specs.WordStatements.{bare, given, word_statement}
 use Rattle.ptk_disasm.proofs.Hexadecimal.{hex-within}
-use Rattle.ptk_disasm.specs.Disassembly.{hex_word, addressed, byte_lines, data_lines, zero_lines, is_byte}
+use Rattle.ptk_disasm.specs.Disassembly.{padded_hex, addressed, byte_lines, data_lines, zero_lines, is_byte}
 use Rattle.ptk_disasm.proofs.Bytes.{small, four_bytes, four_below}
 use Rattle.ptk_disasm.proofs.Numbers.{number-piece}
 use Rattle.ptk_disasm.proofs.Stated.{IsSpelled}
@@ -37,7 +37,7 @@ pub data-begun : (at t : ℕ) (text : List ℕ) (before : List (List ℕ)) (labe
     → Reaches (addressed at (bare (form.Within section.Data) []) ∷ []) before section.Data (lens t 0 0) labels (parts text [] [])
 data-begun at t text before labels room stands =
     reaches-same _ before section.Data section.Data (lens (t + 0) 0 0) (lens t 0 0) labels _ (parts text [] []) refl (ap (λ (k : ℕ). lens k 0 0) (none_more t)) same
-    (reaches-stated before section.Text (lens t 0 0) labels (parts text [] []) stands (bare (form.Within section.Data) []) (spelled_directive section.Data) (hex_word at) (hex-within at) refl refl (fits_still t longest room))
+    (reaches-stated before section.Text (lens t 0 0) labels (parts text [] []) stands (bare (form.Within section.Data) []) (spelled_directive section.Data) (padded_hex at) (hex-within at) refl refl (fits_still t longest room))
   where
     same : (s : Section) → parts text [] [] s ++ added section.Text (bare (form.Within section.Data) []) s ≡ parts text [] [] s
     same section.Text = append-nil text
@@ -48,7 +48,7 @@ pub zeros-begun : (at t d : ℕ) (text bytes : List ℕ) (before : List (List �
     → Reaches (addressed at (bare (form.Within section.Bss) []) ∷ []) before section.Bss (lens t d 0) labels (parts text bytes [])
 zeros-begun at t d text bytes before labels room stands =
     reaches-same _ before section.Bss section.Bss (lens t (d + 0) 0) (lens t d 0) labels _ (parts text bytes []) refl (ap (λ (k : ℕ). lens t k 0) (none_more d)) same
-    (reaches-stated before section.Data (lens t d 0) labels (parts text bytes []) stands (bare (form.Within section.Bss) []) (spelled_directive section.Bss) (hex_word at) (hex-within at) refl refl (fits_still d longest room))
+    (reaches-stated before section.Data (lens t d 0) labels (parts text bytes []) stands (bare (form.Within section.Bss) []) (spelled_directive section.Bss) (padded_hex at) (hex-within at) refl refl (fits_still d longest room))
   where
     same : (s : Section) → parts text bytes [] s ++ added section.Data (bare (form.Within section.Bss) []) s ≡ parts text bytes [] s
     same section.Text = append-nil text
@@ -67,7 +67,7 @@ byte_reached : (at t d b : ℕ) (text bytes : List ℕ) (before : List (List ℕ
     → Reaches (addressed at (given form.Byte [] (pos b)) ∷ []) before section.Data (lens t (d + 1) 0) labels (parts text (bytes ++ b ∷ []) [])
 byte_reached at t d b text bytes before labels small room stands =
     reaches-same _ before section.Data section.Data (lens t (d + 1) 0) (lens t (d + 1) 0) labels _ (parts text (bytes ++ b ∷ []) []) refl refl same
-    (reaches-stated before section.Data (lens t d 0) labels (parts text bytes []) stands (given form.Byte [] (pos b)) (spelled_byte b small) (hex_word at) (hex-within at) refl refl (has_room d 1 longest room))
+    (reaches-stated before section.Data (lens t d 0) labels (parts text bytes []) stands (given form.Byte [] (pos b)) (spelled_byte b small) (padded_hex at) (hex-within at) refl refl (has_room d 1 longest room))
   where
     same : (s : Section) → parts text bytes [] s ++ added section.Data (given form.Byte [] (pos b)) s ≡ parts text (bytes ++ b ∷ []) [] s
     same section.Text = append-nil text
@@ -110,7 +110,7 @@ four_reached at t d a b c e text bytes before labels ha hb hc he whole room stan
     let word : ℕ = from_le_bytes w32 (a ∷ b ∷ c ∷ e ∷ []) in
     let writes = word_writes word (four_below a b c e ha hb hc he) in
     reaches-same _ before section.Data section.Data (lens t (d + 4) 0) (lens t (d + 4) 0) labels _ (parts text (bytes ++ a ∷ b ∷ c ∷ e ∷ []) []) refl refl (same (writes.written ∙ four_bytes a b c e ha hb hc he))
-    (reaches-stated before section.Data (lens t d 0) labels (parts text bytes []) stands (word_statement word) writes.spelled (hex_word at) (hex-within at) refl refl (placed_right d whole room))
+    (reaches-stated before section.Data (lens t d 0) labels (parts text bytes []) stands (word_statement word) writes.spelled (padded_hex at) (hex-within at) refl refl (placed_right d whole room))
   where
     same : added section.Data (word_statement (from_le_bytes w32 (a ∷ b ∷ c ∷ e ∷ []))) section.Data ≡ a ∷ b ∷ c ∷ e ∷ []
         → (s : Section) → parts text bytes [] s ++ added section.Data (word_statement (from_le_bytes w32 (a ∷ b ∷ c ∷ e ∷ []))) s ≡ parts text (bytes ++ a ∷ b ∷ c ∷ e ∷ []) [] s
@@ -160,4 +160,4 @@ zeros-reached at t d n text bytes before labels room stands = by_test (n == 0) r
     by_test false test =
         rw test
         (reaches-same _ before section.Bss section.Bss (lens t d (0 + n)) (lens t d n) labels _ (parts text bytes (replicate n 0)) refl (ap (λ (k : ℕ). lens t d k) (omega arith)) same
-        (reaches-stated before section.Bss (lens t d 0) labels (parts text bytes []) stands (given form.Space [] (pos n)) (spelled_zeros n room) (hex_word at) (hex-within at) refl refl (has_room 0 n longest (omega (arith, room)))))
+        (reaches-stated before section.Bss (lens t d 0) labels (parts text bytes []) stands (given form.Space [] (pos n)) (spelled_zeros n room) (padded_hex at) (hex-within at) refl refl (has_room 0 n longest (omega (arith, room)))))

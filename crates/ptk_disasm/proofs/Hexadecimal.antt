@@ -5,7 +5,7 @@ use Rattle.std.specs.List.{concat, list_all}
 use Rattle.std.specs.Fmt.{digits, digits_onto, digit_glyph}
 use Rattle.std.proofs.lemmas.Bool.Decides.{nat_tests}
 use Rattle.ptk_rv32i_code.specs.Coding.{decoded}
-use Rattle.ptk_disasm.specs.Disassembly.{Names, AreWithinLine, hex_word, target_of, target_text, word_comment}
+use Rattle.ptk_disasm.specs.Disassembly.{Names, AreWithinLine, padded_hex, target_of, target_text, word_comment}
 use Rattle.ptk_disasm.proofs.Quiet.{is_within_line}
 
 glyph_within : (d : ℕ) → is_within_line (digit_glyph false d) ≡ true
@@ -39,7 +39,7 @@ both-within (x ∷ xs) ys h k = by_test (is_within_line x) refl (both-within xs 
     by_test true e later all = rw e (later (rw e at all) k)
     by_test false e later all = let never : false ≡ true = rw e at all in absurd (cc)
 
-pub hex-within : (n : ℕ) → list_all is_within_line (hex_word n) ≡ true
+pub hex-within : (n : ℕ) → list_all is_within_line (padded_hex n) ≡ true
 hex-within n = zeros_within (8 - length (digits 16 false n)) (digits 16 false n) (digits-within n)
 
 -- each of these pieces has no LF
@@ -53,10 +53,10 @@ each-within (x ∷ xs) h = both-within x (concat xs) h.0 (each-within xs h.1)
 
 target_within : (names : Names) → AreWithinLine names → (target : Option ℕ) → list_all is_within_line (target_text names target) ≡ true
 target_within names within None = refl
-target_within names within (Some target) = each-within (codes " -> " ∷ hex_word target ∷ names.there target ∷ []) (refl, (hex-within target, (within.there target, tt)))
+target_within names within (Some target) = each-within (codes " -> " ∷ padded_hex target ∷ names.there target ∷ []) (refl, (hex-within target, (within.there target, tt)))
 
 pub word-comment : (names : Names) → AreWithinLine names → (at word : ℕ) → list_all is_within_line (word_comment names at word) ≡ true
 word-comment names within at word =
     let target : List ℕ = target_text names (target_of at (decoded word)) in
-    each-within (hex_word at ∷ names.here at ∷ codes " " ∷ hex_word word ∷ target ∷ [])
+    each-within (padded_hex at ∷ names.here at ∷ codes " " ∷ padded_hex word ∷ target ∷ [])
     (hex-within at, (within.here at, (refl, (hex-within word, (target_within names within (target_of at (decoded word)), tt)))))

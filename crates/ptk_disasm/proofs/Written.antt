@@ -12,7 +12,7 @@ use Rattle.std.specs.Fmt.{digits, padded_integral, format_spec, char_count, Appe
 use Rattle.std.proofs.lemmas.Grind.{flat_map-append}
 use Rattle.std.proofs.lemmas.List.{append-nil}
 use Rattle.ptk_disasm.specs.Spelling.{Line, line_text}
-use Rattle.ptk_disasm.specs.Disassembly.{hex_word, addressed, text_for, data_lines, is_byte}
+use Rattle.ptk_disasm.specs.Disassembly.{padded_hex, addressed, text_for, data_lines, is_byte}
 
 -- the first of the lines that are left
 pub line-more : (out : List ℕ) (l : Line) (later : List Line) → (out ++ text_for (l ∷ [])) ++ text_for later ≡ out ++ text_for (l ∷ later)
@@ -41,7 +41,7 @@ data-length at total rest h e =
     omega (arith, same, h, e)
 
 -- what `{:08x}` writes
-pub hex-eight : (n : ℕ) → padded_integral (format_spec 32 0 4 8 (2 ^ 64 - 1)) false [] (digits 16 false n) ≡ hex_word n
+pub hex-eight : (n : ℕ) → padded_integral (format_spec 32 0 4 8 (2 ^ 64 - 1)) false [] (digits 16 false n) ≡ padded_hex n
 unfolding padded_integral char_count
 hex-eight n =
     let same : 8 - length (digits 16 false n) - 0 - 0 ≡ 8 - length (digits 16 false n) = omega arith in

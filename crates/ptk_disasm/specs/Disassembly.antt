@@ -19,13 +19,13 @@ use Rattle.ptk_disasm.specs.WordStatements.{bare, given, statement_for}
 
 -- ---- comments
 
--- a number with at least eight hexadecimal digits (own)
-abbrev pub hex_word : ℕ → List ℕ
-hex_word n = let shown : List ℕ = digits 16 false n in replicate (8 - length shown) 48 ++ shown
+-- the digits of a number to base 16, with zeros before them up to eight (own)
+abbrev pub padded_hex : ℕ → List ℕ
+padded_hex n = let shown : List ℕ = digits 16 false n in replicate (8 - length shown) 48 ++ shown
 
 -- a statement with its address (own)
 abbrev pub addressed : ℕ → Statement → Line
-addressed at s = Stated s (hex_word at)
+addressed at s = Stated s (padded_hex at)
 
 -- ---- the text
 
@@ -55,12 +55,12 @@ names_of symbols = record { here = name_text symbols; there = place_text symbols
 -- an address behind an arrow, where there is one (own)
 abbrev pub target_text : Names → Option ℕ → List ℕ
 target_text names None = []
-target_text names (Some target) = concat (codes " -> " ∷ hex_word target ∷ names.there target ∷ [])
+target_text names (Some target) = concat (codes " -> " ∷ padded_hex target ∷ names.there target ∷ [])
 
 -- the address of a word, its value, and the target of a branch or a jump (own)
 abbrev pub word_comment : Names → ℕ → ℕ → List ℕ
 word_comment names at word =
-    concat (hex_word at ∷ names.here at ∷ codes " " ∷ hex_word word ∷ target_text names (target_of at (decoded word)) ∷ [])
+    concat (padded_hex at ∷ names.here at ∷ codes " " ∷ padded_hex word ∷ target_text names (target_of at (decoded word)) ∷ [])
 
 -- a word of the text with its comment (own)
 abbrev pub word_line : Names → ℕ → ℕ → Line

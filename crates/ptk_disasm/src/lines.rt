@@ -27,14 +27,14 @@ fn push_entry(out: &mut String, entry: u32, at: u32) -> Result<(), AllocError>
 
 /// Appends a word with at least eight hexadecimal digits.
 fn push_hexadecimal(out: &mut String, word: u32) -> Result<(), AllocError>
-    ensures { OnOk result (string_bytes out.new ≡ string_bytes out.old ++ is.hex_word word) }
+    ensures { OnOk result (string_bytes out.new ≡ string_bytes out.old ++ is.padded_hex word) }
 {
     write!(out, "{word:08x}")
 }
 
 /// Appends the beginning of a comment, with the address of its line.
 fn push_comment(out: &mut String, at: u32) -> Result<(), AllocError>
-    ensures { OnOk result (string_bytes out.new ≡ string_bytes out.old ++ comment_text (is.hex_word at)) }
+    ensures { OnOk result (string_bytes out.new ≡ string_bytes out.old ++ comment_text (is.padded_hex at)) }
 {
     out.push_str(" # ")?;
     push_hexadecimal(out, at)

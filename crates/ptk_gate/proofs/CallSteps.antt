@@ -21,7 +21,7 @@ use Rattle.ptk_words_model.specs.declared.Spent.TheVariants.{Step, Lost}
 use Rattle.ptk_words_model.specs.declared.StepKind.TheVariants.{UnwindingStart, GateStep, CallStep, InstructionStep}
 use Rattle.ptk_words_model.specs.State.{Part}
 use Rattle.ptk_words_model.specs.Priority.{thread_at}
-use Rattle.ptk_words_model.specs.Schedule.{after_interval, after_turn_end, is_round_robin, is_running, with_used}
+use Rattle.ptk_words_model.specs.Schedule.{after_interval, after_turn_end, is_round_robin, is_running, with_thread_used}
 use Rattle.ptk_words_model.specs.CallTable.{answer_to}
 use Rattle.ptk_words_model.specs.Decision.{a0_after, after_effect, after_step, Decision, turn, after_turn, after_whole_step, invocation, is_to_unwind, runner_in, runner_of, spent_in_turn, step_kind, word_fetched}
 use Rattle.ptk_words_sync_invariant.specs.Conditions.{IsNoWaiter}
@@ -223,7 +223,7 @@ noted_free t entry old noted moved well =
 not_counted : (interval cost t : ℕ) (o : Option Thread) (s : Part) → unwrap_or (option_map (λ (thread : Thread). is_round_robin thread.policy) o) false ≡ false → after_interval interval cost t o s ≡ s
 not_counted interval cost t None s e = refl
 not_counted interval cost t (Some thread) s e =
-    let counted : Part = if nat_le interval (thread.used + cost) then after_turn_end t s else with_used t (thread.used + cost) s in
+    let counted : Part = if nat_le interval (thread.used + cost) then after_turn_end t s else with_thread_used t (thread.used + cost) s in
     ap (λ (b : Bool). if is_running t s.running && b then counted else s) e
     ∙ ap (λ (b : Bool). if b then counted else s) (and-false (is_running t s.running))
 

@@ -7,7 +7,7 @@ use Rattle.ptk_words.specs.declared.threads.Thread.{Thread}
 use Rattle.ptk_words_model.specs.State.{Part, with_locks}
 use Rattle.ptk_words_model.specs.Priority.{thread_at}
 use Rattle.ptk_words_model.specs.Schedule.{with_thread}
-use Rattle.ptk_words_model.specs.Decision.{with_cpu}
+use Rattle.ptk_words_model.specs.Decision.{with_thread_cpu}
 use Rattle.ptk_words.specs.Faults.{is_active}
 use Rattle.ptk_threads.specs.Registers.{with_pc}
 use Rattle.ptk_words_invariant.specs.Well.{IsWell}
@@ -25,7 +25,7 @@ with_entry t o s = with_locks (λ locks. record locks { threads = pool_set locks
 
 -- the thread goes on at the address with its own registers
 pub passed_as : (t pc : ℕ) (thread : Thread) (s : Part) → thread_at s.locks t ≡ Some thread
-    → with_locks (with_thread t (with_pc pc)) s ≡ with_cpu t (record thread.cpu { pc = pc }) s
+    → with_locks (with_thread t (with_pc pc)) s ≡ with_thread_cpu t (record thread.cpu { pc = pc }) s
 passed_as t pc thread s e =
     let g : Thread → Thread = λ (own : Thread). record own { cpu = record thread.cpu { pc = pc } } in
     ap (λ (o : Option Thread). with_entry t (option_map (with_pc pc) o) s) e ∙ sym (ap (λ (o : Option Thread). with_entry t (option_map g o) s) e)

@@ -17,7 +17,7 @@ use Rattle.ptk_threads.specs.Registers.{with_pc}
 use Rattle.ptk_words_model.specs.declared.Invocation.{Invocation}
 use Rattle.ptk_words_model.specs.State.{Part, with_locks}
 use Rattle.ptk_words_model.specs.Priority.{thread_at}
-use Rattle.ptk_words_model.specs.Schedule.{after_interval, after_turn_end, at_tail, is_round_robin, is_running, unused, with_registers, with_reply, with_thread, with_used}
+use Rattle.ptk_words_model.specs.Schedule.{after_interval, after_turn_end, at_tail, is_round_robin, is_running, unused, with_registers, with_reply, with_thread, with_thread_used}
 use Rattle.ptk_words_model.specs.Calls.{replied}
 use Rattle.ptk_words_model.specs.CallTable.{answer_to}
 use Rattle.ptk_words_model.specs.ThreadCalls.{after_placing}
@@ -91,7 +91,7 @@ a0_yielded before t s alive =
 idle_interval : (interval cost t : ℕ) (o : Option Thread) (s : Part) → s.running ≡ None → after_interval interval cost t o s ≡ s
 idle_interval interval cost t None s idle = refl
 idle_interval interval cost t (Some thread) s idle =
-    let counted : Part = if nat_le interval (thread.used + cost) then after_turn_end t s else with_used t (thread.used + cost) s in
+    let counted : Part = if nat_le interval (thread.used + cost) then after_turn_end t s else with_thread_used t (thread.used + cost) s in
     ap (λ (running : Option ℕ). if is_running t running && is_round_robin thread.policy then counted else s) idle
 
 -- the step noted is all

@@ -49,7 +49,7 @@ impl Pools {
     #[tactic(auto, using(crate::proofs::Hands::handed))]
     pub fn keep_next(&mut self, tick: Tick) -> bool
         ensures told { result ≡ is_some (next_byte tick self.old.here.console) }
-        ensures moved { self.new ≡ record self.old { here = with_console (console.after_next (limits_here self.old).ring tick) self.old.here } }
+        ensures moved { self.new ≡ record self.old { here = with_console (console.after_next_byte (limits_here self.old).ring tick) self.old.here } }
     {
         let p = self.hand;
         self.consoles.arrive(p, tick)

@@ -15,7 +15,7 @@ use Rattle.ptk_console.specs.ConsoleTable.{next_byte, without_next, with_any_inp
 use Rattle.ptk_console.specs.ConsoleTable as console
 use Rattle.ptk_gate_moves.specs.Held.{Held, limits_here}
 use Rattle.ptk_gate_moves.specs.Moves.{with_next_taken}
-use Rattle.ptk_gate_services.specs.Arrivals.{after_byte, after_next, after_due_byte}
+use Rattle.ptk_gate_services.specs.Arrivals.{after_byte, after_next_arrival, after_due_byte}
 use Rattle.ptk_gate_services.proofs.ArrivalSteps.{arrivals_step, arrivals_end, next_well, byte_well, next_fewer}
 
 -- ---- the next byte
@@ -35,16 +35,16 @@ untaken s [] e = refl
 untaken s (x ∷ xs) e = absurd (let no : ⊥ = cc e in no)
 
 -- where none is due, nothing changes
-pub undue_is : (limit tick : ℕ) (s : Part) → is_some (next_byte tick s.console) ≡ false → after_next limit tick s ≡ s
+pub undue_is : (limit tick : ℕ) (s : Part) → is_some (next_byte tick s.console) ≡ false → after_next_arrival limit tick s ≡ s
 undue_is limit tick s none = none_next (next_byte tick s.console) limit tick s (none_if_not_some (next_byte tick s.console) none)
 
 -- and nothing has been taken
-pub next_none : (limit tick : ℕ) (s : Part) → next_byte tick s.console ≡ None → after_next limit tick s ≡ with_next_taken tick s
+pub next_none : (limit tick : ℕ) (s : Part) → next_byte tick s.console ≡ None → after_next_arrival limit tick s ≡ with_next_taken tick s
 next_none limit tick s none = none_next (next_byte tick s.console) limit tick s none ∙ sym (untaken s (arriving tick s.console) none)
 
 -- a byte that is due, taken and then handed to the first waiter
 pub handed_is : (limit tick byte t : ℕ) (s : Part) → first_waiter s ≡ Some t → next_byte tick s.console ≡ Some byte
-    → after_next limit tick s ≡ with_locks (after_wake t (0 ∷ byte ∷ [])) (with_console (without_waiter t) (with_next_taken tick s))
+    → after_next_arrival limit tick s ≡ with_locks (after_wake t (0 ∷ byte ∷ [])) (with_console (without_waiter t) (with_next_taken tick s))
 handed_is limit tick byte t s waits is = next_is (next_byte tick s.console) limit tick byte s is ∙ ap (λ (o : Option ℕ). after_arrival_for o limit byte (with_next_taken tick s)) waits
 
 unwaited_of : (o : Option ℕ) (limit tick : ℕ) (s : Part) → next_byte tick s.console ≡ o → first_waiter s ≡ None → with_console (λ console. with_any_input limit o (without_next tick console)) s ≡ after_due_byte o limit tick s
@@ -52,7 +52,7 @@ unwaited_of None limit tick s e none = untaken s (arriving tick s.console) e
 unwaited_of (Some byte) limit tick s e none = ap (λ (o : Option ℕ). after_arrival_for o limit byte (with_next_taken tick s)) (sym none)
 
 -- with no waiter, the next byte goes into the ring or is lost
-pub unwaited_is : (limit tick : ℕ) (s : Part) → first_waiter s ≡ None → after_next limit tick s ≡ with_console (console.after_next limit tick) s
+pub unwaited_is : (limit tick : ℕ) (s : Part) → first_waiter s ≡ None → after_next_arrival limit tick s ≡ with_console (console.after_next_byte limit tick) s
 unwaited_is limit tick s none = sym (unwaited_of (next_byte tick s.console) limit tick s refl none)
 
 pub ruleset arrivals = (undue_is, next_none, handed_is, unwaited_is)
@@ -67,7 +67,7 @@ pub record AreArriving (tick : ℕ) (initial now : Held) : Type 0 where
 
 -- one more, and one fewer is to come
 pub arriving_more : (tick : ℕ) (initial now new : Held) → AreArriving tick initial now → is_some (next_byte tick now.here.console) ≡ true
-    → new ≡ record now { here = after_next (limits_here now).ring tick now.here } → AreArriving tick initial new × (length new.here.console.coming + 1 ≡ length now.here.console.coming)
+    → new ≡ record now { here = after_next_arrival (limits_here now).ring tick now.here } → AreArriving tick initial new × (length new.here.console.coming + 1 ≡ length now.here.console.coming)
 arriving_more tick initial now new a due e =
     let found = some_of (next_byte tick now.here.console) due in
     let byte : ℕ = found.0 in
@@ -77,7 +77,7 @@ arriving_more tick initial now new a due e =
     let sections : limits_here now ≡ limits_here initial = ap limits_here a.rest in
     let new_is : new ≡ record now { here = v } =
     e
-    ∙ ap (λ (limits : Limits). record now { here = after_next limits.ring tick now.here }) sections
+    ∙ ap (λ (limits : Limits). record now { here = after_next_arrival limits.ring tick now.here }) sections
     ∙ ap (λ (s : Part). record now { here = s }) (next_is (next_byte tick now.here.console) (limits_here initial).ring tick byte now.here is) in
     let fewer : length v.console.coming ≡ length u.console.coming = ap length (arrival_coming (first_waiter u) (limits_here initial).ring byte u) in
     rw new_is (
@@ -91,7 +91,7 @@ arriving_more tick initial now new a due e =
 
 -- and at last all
 pub arriving_end : (tick : ℕ) (initial now new : Held) → AreArriving tick initial now → is_some (next_byte tick now.here.console) ≡ false
-    → new ≡ record now { here = after_next (limits_here now).ring tick now.here } → new ≡ record initial { here = after_arrivals (limits_here initial) tick initial.here }
+    → new ≡ record now { here = after_next_arrival (limits_here now).ring tick now.here } → new ≡ record initial { here = after_arrivals (limits_here initial) tick initial.here }
 arriving_end tick initial now new a none e =
     let is : next_byte tick now.here.console ≡ None = none_if_not_some (next_byte tick now.here.console) none in
     e ∙ ap (λ (s : Part). record now { here = s }) (undue_is (limits_here now).ring tick now.here none)

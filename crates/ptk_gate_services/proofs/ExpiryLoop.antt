@@ -4,7 +4,7 @@ use Rattle.std.specs.Prelude.{Option, Some, None, is_some}
 use Rattle.std.proofs.lemmas.Bool.{false≢true}
 use Rattle.ptk_words_model.specs.State.{Part}
 use Rattle.ptk_words_model.specs.Withdrawal.{Expiry, in_order, due, deadlines_of, after_expiries}
-use Rattle.ptk_words_sync_invariant.specs.Expiries.{next_expiry, after_expiry, after_next}
+use Rattle.ptk_words_sync_invariant.specs.Expiries.{next_expiry, after_expiry, after_next_expiry}
 use Rattle.ptk_words_sync_invariant.proofs.Expiries.{in_turn, one_at_a_time}
 use Rattle.ptk_words_invariant.specs.Well.{IsWell}
 use Rattle.ptk_words_invariant.proofs.Timeouts.{well_timeout}
@@ -39,7 +39,7 @@ expiring_more tick initial now new a found e =
     let is : next_expiry_in tick now.here ≡ Some x = next.1 in
     let v : Part = after_expiry x now.here in
     let new_is : new ≡ record now { here = v } = e ∙ ap (λ o. record now { here = after_one_expiry o now.here }) is in
-    let step : after_expiries tick now.here ≡ after_expiries tick v = one_at_a_time tick now.here ∙ ap (λ o. after_next tick o now.here) is in
+    let step : after_expiries tick now.here ≡ after_expiries tick v = one_at_a_time tick now.here ∙ ap (λ o. after_next_expiry tick o now.here) is in
     let more : length (in_order (due tick now.here)) ≡ length (x ∷ in_order (due tick v)) = ap length (in_turn tick x now.here is).later in
     rw new_is (
       record { rest = ap (λ (pools : Held). record pools { here = v }) a.rest; same = sym step ∙ a.same; well = well_timeout (limits_here initial) x.thread now.here a.well },
@@ -51,5 +51,5 @@ pub expiring_end : (tick : ℕ) (initial now new : Held) → AreExpiring tick in
     → new ≡ record now { here = after_one_expiry (next_expiry tick (deadlines_of now.here.locks)) now.here } → new ≡ record initial { here = after_expiries tick initial.here }
 expiring_end tick initial now new a none e =
     let is : next_expiry_in tick now.here ≡ None = none_of (next_expiry_in tick now.here) none in
-    let end : after_expiries tick now.here ≡ now.here = one_at_a_time tick now.here ∙ ap (λ o. after_next tick o now.here) is in
+    let end : after_expiries tick now.here ≡ now.here = one_at_a_time tick now.here ∙ ap (λ o. after_next_expiry tick o now.here) is in
     e ∙ ap (λ o. record now { here = after_one_expiry o now.here }) is ∙ a.rest ∙ ap (λ (s : Part). record initial { here = s }) (sym end ∙ a.same)

@@ -16,5 +16,5 @@ after_due_byte None limit tick s = s
 after_due_byte (Some byte) limit tick s = after_byte limit byte (with_next_taken tick s)
 
 -- the next byte to come, if it is due at the tick, is brought to its place
-abbrev pub after_next : ℕ → Tick → Part → Part
-after_next limit tick s = after_due_byte (next_byte tick s.console) limit tick s
+abbrev pub after_next_arrival : ℕ → Tick → Part → Part
+after_next_arrival limit tick s = after_due_byte (next_byte tick s.console) limit tick s

@@ -11,7 +11,7 @@ ghost use Rattle.ptk_words.specs.Pools.{is_in};
 ghost use Rattle.ptk_console.specs.ConsoleTable.{next_byte};
 ghost use Rattle.ptk_gate_moves.specs.Held.{limits_here};
 ghost use Rattle.ptk_words_sync_invariant.specs.Conditions.{IsNoWaiter};
-ghost use Rattle.ptk_gate_services.specs.Arrivals.{after_next};
+ghost use Rattle.ptk_gate_services.specs.Arrivals.{after_next_arrival};
 
 use ptk_gate_moves::Pools;
 use ptk_words::{ThreadNo, Tick};
@@ -36,7 +36,7 @@ fn hand_next(pools: &mut Pools, t: ThreadNo, tick: Tick) -> bool
     requires fresh { is_in t pools.old.here.line ≡ false }
     requires free { IsNoWaiter t pools.old.here.mutexes pools.old.here.conditions }
     ensures told { result ≡ is_some (next_byte tick pools.old.here.console) }
-    ensures moved { pools.new ≡ record pools.old { here = after_next (limits_here pools.old).ring tick pools.old.here } }
+    ensures moved { pools.new ≡ record pools.old { here = after_next_arrival (limits_here pools.old).ring tick pools.old.here } }
 {
     let next = pools.next_arrival(tick);
     match next {
@@ -54,7 +54,7 @@ fn hand_next(pools: &mut Pools, t: ThreadNo, tick: Tick) -> bool
 fn arrive_next(pools: &mut Pools, tick: Tick) -> bool
     requires well { IsWell (limits_here pools.old) pools.old.here }
     ensures told { result ≡ is_some (next_byte tick pools.old.here.console) }
-    ensures moved { pools.new ≡ record pools.old { here = after_next (limits_here pools.old).ring tick pools.old.here } }
+    ensures moved { pools.new ≡ record pools.old { here = after_next_arrival (limits_here pools.old).ring tick pools.old.here } }
 {
     let is_due = pools.is_input_due(tick);
     if !is_due {

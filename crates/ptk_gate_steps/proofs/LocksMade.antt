@@ -27,7 +27,7 @@ use Rattle.ptk_words_model.specs.MutexCalls.{is_locked, mutex_lock, mutex_unlock
 use Rattle.ptk_words_model.specs.Calls.{Answer, replied, refusal, success, is_pointer}
 use Rattle.ptk_words_model.specs.CallTable.{answer_to}
 use Rattle.ptk_words_model.specs.Steps.{Row, readable, mutex_named}
-use Rattle.ptk_words_model.specs.Decision.{with_cpu, invocation}
+use Rattle.ptk_words_model.specs.Decision.{with_thread_cpu, invocation}
 use Rattle.ptk_words_invariant.specs.Rests.{lock_by, unlock_named}
 use Rattle.ptk_mutex_priorities.specs.Plain.{is_sound, is_takeable, is_releasable}
 use Rattle.ptk_mutex_priorities.proofs.Plain.{takeable_plain, releasable_plain}
@@ -167,7 +167,7 @@ unlock_row m i s is free =
     ∙ ap (λ (locks : Locks). replied i.caller (0 ∷ []) (with_locks (λ _. locks) s)) (freed i.caller m s.locks known))
 
 -- the state that the thread's registers are of names the same mutex
-named_with : (t m pointer : ℕ) (cpu : Processor) (s : Part) → IsNamed pointer m s → IsNamed pointer m (with_cpu t cpu s)
+named_with : (t m pointer : ℕ) (cpu : Processor) (s : Part) → IsNamed pointer m s → IsNamed pointer m (with_thread_cpu t cpu s)
 named_with t m pointer cpu s is = record { pointed = is.pointed; word = is.word; some = is.some; used = is.used }
 
 -- pthread_mutex_lock
@@ -177,8 +177,8 @@ lock_put limits t m before after s e pointed word some free left = record {
   values = 0 ∷ [];
   replies = λ tick.
       let named : IsNamed (register before A0) m s = record { pointed = pointed; word = word; some = some; used = used_by (mutex_at s.locks m) free } in
-      ap (λ (o : Option Call). (answer_to o (invocation limits tick t before) (with_cpu t before s)).part) e
-      ∙ lock_row m (invocation limits tick t before) (with_cpu t before s) (named_with t m (register before A0) before s named) free;
+      ap (λ (o : Option Call). (answer_to o (invocation limits tick t before) (with_thread_cpu t before s)).part) e
+      ∙ lock_row m (invocation limits tick t before) (with_thread_cpu t before s) (named_with t m (register before A0) before s named) free;
   left = left;
   plain = (takeable_plain (mutex_at s.locks m) free, takeable_alone (mutex_at s.locks m) free);
 }
@@ -190,8 +190,8 @@ unlock_put limits t m before after s e pointed word some free left = record {
   values = 0 ∷ [];
   replies = λ tick.
       let named : IsNamed (register before A0) m s = record { pointed = pointed; word = word; some = some; used = used_last t (mutex_at s.locks m) free } in
-      ap (λ (o : Option Call). (answer_to o (invocation limits tick t before) (with_cpu t before s)).part) e
-      ∙ unlock_row m (invocation limits tick t before) (with_cpu t before s) (named_with t m (register before A0) before s named) free;
+      ap (λ (o : Option Call). (answer_to o (invocation limits tick t before) (with_thread_cpu t before s)).part) e
+      ∙ unlock_row m (invocation limits tick t before) (with_thread_cpu t before s) (named_with t m (register before A0) before s named) free;
   left = left;
   plain = (releasable_plain t (mutex_at s.locks m) free, releasable_alone t (mutex_at s.locks m) free);
 }

@@ -13,9 +13,9 @@ use Rattle.ptk_words.proofs.Pools.{changed_other, changed_twice}
 use Rattle.ptk_words_model.specs.State.{Mutex, Part, with_locks, with_console}
 use Rattle.ptk_words_model.specs.Mutex.{mutex_at}
 use Rattle.ptk_words_model.specs.Priority.{thread_at, effective_priority}
-use Rattle.ptk_words_model.specs.Schedule.{with_thread, with_used, is_round_robin}
+use Rattle.ptk_words_model.specs.Schedule.{with_thread, with_thread_used, is_round_robin}
 use Rattle.ptk_words_model.specs.Console.{is_full, with_output}
-use Rattle.ptk_words_model.specs.Decision.{with_cpu}
+use Rattle.ptk_words_model.specs.Decision.{with_thread_cpu}
 use Rattle.ptk_words_batches.specs.Quiet.{computed}
 use Rattle.ptk_words_batches.specs.Replies.{outcome_of, with_outcome}
 use Rattle.ptk_words_batches.proofs.PlainDecisions.{with_registers_of}
@@ -30,17 +30,17 @@ use Rattle.ptk_gate_steps.proofs.Steady.{KeepsContended}
 
 -- under SCHED_FIFO no tick is counted
 pub left_fifo : (t n : ℕ) (cpu : Processor) (thread : Thread) (policy : Policy) (s : Part) → thread_at s.locks t ≡ Some thread → thread.policy ≡ policy → policy ≡ Fifo
-    → with_cpu t cpu s ≡ with_locks (with_thread t (computed n cpu)) s
+    → with_thread_cpu t cpu s ≡ with_locks (with_thread t (computed n cpu)) s
 left_fifo t n cpu thread policy s found same fifo =
     let not : is_round_robin thread.policy ≡ false = ap is_round_robin (same ∙ fifo) in
     ap (λ (o : Option Thread). with_locks (λ locks. record locks { threads = pool_set s.threads t o }) s) (fifo_entry n cpu thread (pool_get s.threads t) found not)
 
 -- under SCHED_RR each is
 pub left_robin : (t n used : ℕ) (cpu : Processor) (thread : Thread) (policy : Policy) (s : Part) → thread_at s.locks t ≡ Some thread → thread.policy ≡ policy → policy ≡ RoundRobin → used ≡ thread.used + n
-    → with_used t used (with_cpu t cpu s) ≡ with_locks (with_thread t (computed n cpu)) s
+    → with_thread_used t used (with_thread_cpu t cpu s) ≡ with_locks (with_thread t (computed n cpu)) s
 left_robin t n used cpu thread policy s found same robin counted =
     let is : is_round_robin thread.policy ≡ true = ap is_round_robin (same ∙ robin) in
-    ap (λ (u : ℕ). with_used t u (with_cpu t cpu s)) counted
+    ap (λ (u : ℕ). with_thread_used t u (with_thread_cpu t cpu s)) counted
     ∙ (ap (λ threads. with_locks (λ locks. record locks { threads = threads }) s) (changed_twice t (λ (v : Thread). record v { used = thread.used + n }) (with_registers_of cpu) s.threads)
     ∙ ap (λ (o : Option Thread). with_locks (λ locks. record locks { threads = pool_set s.threads t o }) s) (robin_entry n cpu thread (pool_get s.threads t) found is))
 

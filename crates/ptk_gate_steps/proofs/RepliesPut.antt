@@ -23,7 +23,7 @@ use Rattle.ptk_words_model.specs.Unwinding.{phase_of}
 use Rattle.ptk_words_model.specs.ThreadCreation.{policy_number}
 use Rattle.ptk_words_model.specs.Calls.{Answer, replied, refusal, success, cancellation_answer}
 use Rattle.ptk_words_model.specs.CallTable.{answer_to}
-use Rattle.ptk_words_model.specs.Decision.{with_cpu, invocation}
+use Rattle.ptk_words_model.specs.Decision.{with_thread_cpu, invocation}
 use Rattle.ptk_words_sync_invariant.proofs.Threads.{changed_same}
 use Rattle.ptk_words_batches.specs.Quiet.{computed}
 use Rattle.ptk_words_batches.proofs.PlainDecisions.{with_registers_of}
@@ -41,7 +41,7 @@ unknown_put : (limits : Limits) (t : ℕ) (before after : Processor) (s : Part) 
 unknown_put limits t before after s e left = record {
   values = errno_number ENOSYS ∷ [];
   replies = λ tick.
-      ap (λ (o : Option Call). (answer_to o (invocation limits tick t before) (with_cpu t before s)).part) e;
+      ap (λ (o : Option Call). (answer_to o (invocation limits tick t before) (with_thread_cpu t before s)).part) e;
   left = left;
   plain = tt;
 }
@@ -51,7 +51,7 @@ self_put : (limits : Limits) (t : ℕ) (before after : Processor) (s : Part) →
 self_put limits t before after s e left = record {
   values = 0 ∷ t ∷ [];
   replies = λ tick.
-      ap (λ (o : Option Call). (answer_to o (invocation limits tick t before) (with_cpu t before s)).part) e;
+      ap (λ (o : Option Call). (answer_to o (invocation limits tick t before) (with_thread_cpu t before s)).part) e;
   left = left;
   plain = tt;
 }
@@ -64,7 +64,7 @@ word_same word cpu (Some thread) same = ap Some (same thread)
 
 -- what is read of a thread, whatever the caller's registers are
 read_same : {A : Type 0} (word : Thread → A) (t u : ℕ) (cpu : Processor) (s : Part) → ((thread : Thread) → word (with_registers_of cpu thread) ≡ word thread)
-    → option_map word (thread_at (with_cpu t cpu s).locks u) ≡ option_map word (thread_at s.locks u)
+    → option_map word (thread_at (with_thread_cpu t cpu s).locks u) ≡ option_map word (thread_at s.locks u)
 read_same word t u cpu s same =
     changed_same (option_map word) t (with_registers_of cpu) s.threads (word_same word cpu (pool_get s.threads t) same) u
 
@@ -98,8 +98,8 @@ told_put : (limits : Limits) (t policy priority : ℕ) (target : Thread) (before
 told_put limits t policy priority target before after s e found is-policy is-priority left = record {
   values = 0 ∷ policy_number target.policy ∷ target.priority ∷ [];
   replies = λ tick.
-      ap (λ (o : Option Call). (answer_to o (invocation limits tick t before) (with_cpu t before s)).part) e
-      ∙ told_by (invocation limits tick t before) (with_cpu t before s) target (thread_at (with_cpu t before s).locks (register before A0))
+      ap (λ (o : Option Call). (answer_to o (invocation limits tick t before) (with_thread_cpu t before s)).part) e
+      ∙ told_by (invocation limits tick t before) (with_thread_cpu t before s) target (thread_at (with_thread_cpu t before s).locks (register before A0))
       (read_same told t (register before A0) before s (λ thread. refl) ∙ found);
   left = left
       ∙ ap (λ (w : ℕ). with_register (with_register (with_register before A0 0) A1 w) A2 priority) is-policy
@@ -113,8 +113,8 @@ missing_put : (limits : Limits) (t : ℕ) (before after : Processor) (s : Part) 
 missing_put limits t before after s e found left = record {
   values = errno_number ESRCH ∷ [];
   replies = λ tick.
-      ap (λ (o : Option Call). (answer_to o (invocation limits tick t before) (with_cpu t before s)).part) e
-      ∙ missing_by (λ (thread : Thread). success (policy_number thread.policy ∷ thread.priority ∷ []) (invocation limits tick t before) (with_cpu t before s)) (invocation limits tick t before) (with_cpu t before s) (thread_at (with_cpu t before s).locks (register before A0))
+      ap (λ (o : Option Call). (answer_to o (invocation limits tick t before) (with_thread_cpu t before s)).part) e
+      ∙ missing_by (λ (thread : Thread). success (policy_number thread.policy ∷ thread.priority ∷ []) (invocation limits tick t before) (with_thread_cpu t before s)) (invocation limits tick t before) (with_thread_cpu t before s) (thread_at (with_thread_cpu t before s).locks (register before A0))
       (read_same told t (register before A0) before s (λ thread. refl) ∙ found);
   left = left;
   plain = tt;
@@ -126,8 +126,8 @@ undetached_put : (limits : Limits) (t : ℕ) (before after : Processor) (s : Par
 undetached_put limits t before after s e found left = record {
   values = errno_number ESRCH ∷ [];
   replies = λ tick.
-      ap (λ (o : Option Call). (answer_to o (invocation limits tick t before) (with_cpu t before s)).part) e
-      ∙ missing_by _ (invocation limits tick t before) (with_cpu t before s) (thread_at (with_cpu t before s).locks (register before A0))
+      ap (λ (o : Option Call). (answer_to o (invocation limits tick t before) (with_thread_cpu t before s)).part) e
+      ∙ missing_by _ (invocation limits tick t before) (with_thread_cpu t before s) (thread_at (with_thread_cpu t before s).locks (register before A0))
       (read_same told t (register before A0) before s (λ thread. refl) ∙ found);
   left = left;
   plain = tt;
@@ -139,8 +139,8 @@ taken_put : (limits : Limits) (t : ℕ) (before after : Processor) (s : Part) �
 taken_put limits t before after s e found left = record {
   values = errno_number EINVAL ∷ [];
   replies = λ tick.
-      ap (λ (o : Option Call). (answer_to o (invocation limits tick t before) (with_cpu t before s)).part) e
-      ∙ taken_by _ (invocation limits tick t before) (with_cpu t before s) (thread_at (with_cpu t before s).locks (register before A0))
+      ap (λ (o : Option Call). (answer_to o (invocation limits tick t before) (with_thread_cpu t before s)).part) e
+      ∙ taken_by _ (invocation limits tick t before) (with_thread_cpu t before s) (thread_at (with_thread_cpu t before s).locks (register before A0))
       (read_same (λ (thread : Thread). is_taken thread) t (register before A0) before s (λ thread. refl) ∙ found);
   left = left;
   plain = tt;
@@ -169,7 +169,7 @@ output_put limits t byte before after s e none room is left = record {
   values = 0 ∷ [];
   replies = λ tick.
       let i : Invocation = invocation limits tick t before in
-      let u : Part = with_cpu t before s in
+      let u : Part = with_thread_cpu t before s in
       ap (λ (o : Option Call). (answer_to o i u).part) e
       ∙ (ap (λ (a : Answer). a.part) (goes_on i u (put_answer i u (is_full limits.output u.console)) none)
       ∙ (ap (λ (full : Bool). (put_answer i u full).part) room
@@ -185,7 +185,7 @@ refused_put limits t before after s e none full left = record {
   values = errno_number EAGAIN ∷ [];
   replies = λ tick.
       let i : Invocation = invocation limits tick t before in
-      let u : Part = with_cpu t before s in
+      let u : Part = with_thread_cpu t before s in
       ap (λ (o : Option Call). (answer_to o i u).part) e
       ∙ (ap (λ (a : Answer). a.part) (goes_on i u (put_answer i u (is_full limits.output u.console)) none)
       ∙ ap (λ (b : Bool). (put_answer i u b).part) full);
@@ -201,8 +201,8 @@ value_put : (limits : Limits) (t value : ℕ) (before after : Processor) (s : Pa
 value_put limits t value before after s e is left = record {
   values = 0 ∷ value ∷ [];
   replies = λ tick.
-      ap (λ (o : Option Call). (answer_to o (invocation limits tick t before) (with_cpu t before s)).part) e
-      ∙ ap (λ (v : ℕ). replied t (0 ∷ v ∷ []) (with_cpu t before s)) (sym is);
+      ap (λ (o : Option Call). (answer_to o (invocation limits tick t before) (with_thread_cpu t before s)).part) e
+      ∙ ap (λ (v : ℕ). replied t (0 ∷ v ∷ []) (with_thread_cpu t before s)) (sym is);
   left = left;
   plain = tt;
 }
@@ -218,7 +218,7 @@ set_put limits t k value before after s e known key is left = record {
   values = 0 ∷ [];
   replies = λ tick.
       let i : Invocation = invocation limits tick t before in
-      let u : Part = with_cpu t before s in
+      let u : Part = with_thread_cpu t before s in
       ap (λ (o : Option Call). (answer_to o i u).part) e
       ∙ (ap (λ (b : Bool). (set_answer i u b).part) known
       ∙ (ap (λ (n : ℕ). replied t (0 ∷ []) (with_keys (with_values t (λ values. pool_set values n i.a1)) u)) (sym key)
@@ -234,7 +234,7 @@ unset_put limits t before after s e unknown left = record {
   values = errno_number EINVAL ∷ [];
   replies = λ tick.
       let i : Invocation = invocation limits tick t before in
-      let u : Part = with_cpu t before s in
+      let u : Part = with_thread_cpu t before s in
       ap (λ (o : Option Call). (answer_to o i u).part) e
       ∙ ap (λ (b : Bool). (set_answer i u b).part) unknown;
   left = left;

@@ -21,7 +21,7 @@ use Rattle.ptk_words_model.specs.ConditionCalls.{cond_signal, cond_broadcast}
 use Rattle.ptk_words_model.specs.Calls.{Answer, replied, refusal, is_pointer}
 use Rattle.ptk_words_model.specs.CallTable.{answer_to}
 use Rattle.ptk_words_model.specs.Steps.{Row, readable, condition_named}
-use Rattle.ptk_words_model.specs.Decision.{with_cpu, invocation}
+use Rattle.ptk_words_model.specs.Decision.{with_thread_cpu, invocation}
 use Rattle.ptk_words_invariant.specs.Rests.{signal_named, broadcast_named}
 use Rattle.ptk_rv32i.specs.Effects.{at_pc}
 use Rattle.ptk_gate_moves.specs.Held.{Held, limits_here}
@@ -127,7 +127,7 @@ broadcast_row i s is =
     ∙ ap (λ (u : Part). replied i.caller (0 ∷ []) u) (broadcasts_none (word_at s.memory i.a0) s is.alone)
 
 -- the state that the thread's registers are of names the same
-alone_with : (t pointer : ℕ) (cpu : Processor) (s : Part) → IsAlone pointer s → IsAlone pointer (with_cpu t cpu s)
+alone_with : (t pointer : ℕ) (cpu : Processor) (s : Part) → IsAlone pointer s → IsAlone pointer (with_thread_cpu t cpu s)
 alone_with t pointer cpu s is = record { pointed = is.pointed; used = is.used; alone = is.alone }
 
 -- pthread_cond_signal
@@ -136,8 +136,8 @@ signal_put : (limits : Limits) (t : ℕ) (before after : Processor) (s : Part) �
 signal_put limits t before after s e unwaited left = record {
   values = 0 ∷ [];
   replies = λ tick.
-      ap (λ (o : Option Call). (answer_to o (invocation limits tick t before) (with_cpu t before s)).part) e
-      ∙ signal_row (invocation limits tick t before) (with_cpu t before s) (alone_with t (register before A0) before s (alone (register before A0) s unwaited));
+      ap (λ (o : Option Call). (answer_to o (invocation limits tick t before) (with_thread_cpu t before s)).part) e
+      ∙ signal_row (invocation limits tick t before) (with_thread_cpu t before s) (alone_with t (register before A0) before s (alone (register before A0) s unwaited));
   left = left;
   plain = tt;
 }
@@ -148,8 +148,8 @@ broadcast_put : (limits : Limits) (t : ℕ) (before after : Processor) (s : Part
 broadcast_put limits t before after s e unwaited left = record {
   values = 0 ∷ [];
   replies = λ tick.
-      ap (λ (o : Option Call). (answer_to o (invocation limits tick t before) (with_cpu t before s)).part) e
-      ∙ broadcast_row (invocation limits tick t before) (with_cpu t before s) (alone_with t (register before A0) before s (alone (register before A0) s unwaited));
+      ap (λ (o : Option Call). (answer_to o (invocation limits tick t before) (with_thread_cpu t before s)).part) e
+      ∙ broadcast_row (invocation limits tick t before) (with_thread_cpu t before s) (alone_with t (register before A0) before s (alone (register before A0) s unwaited));
   left = left;
   plain = tt;
 }

@@ -14,7 +14,7 @@ use Rattle.ptk_words_model.specs.State.{Part}
 use Rattle.ptk_words_model.specs.Priority.{thread_at}
 use Rattle.ptk_words_model.specs.Schedule.{after_interval}
 use Rattle.ptk_words_model.specs.Calls.{Answer}
-use Rattle.ptk_words_model.specs.Decision.{runner_of, with_cpu, invocation, after_effect, after_step, entry_of, step_cost, step_kind, after_whole_step, Decision, turn, after_turn, ready_at, decision, after_decision}
+use Rattle.ptk_words_model.specs.Decision.{runner_of, with_thread_cpu, invocation, after_effect, after_step, entry_of, step_cost, step_kind, after_whole_step, Decision, turn, after_turn, ready_at, decision, after_decision}
 use Rattle.ptk_impact.proofs.Rows.{others, IsAlike, answer_same}
 use Rattle.ptk_impact.proofs.Written.{ready_kept, interval_kept}
 
@@ -23,7 +23,7 @@ effect_same : (output kept : ℕ) (limits : Limits) (tick t pc : ℕ) (effect : 
     → after_effect (others output kept limits) tick t pc effect s ≡ after_effect limits tick t pc effect s
 effect_same output kept limits tick t pc (Done cpu memory) s same = refl
 effect_same output kept limits tick t pc (Called cpu) s same =
-    ap (λ (a : Answer). a.part) (answer_same (call_of (register cpu A7)) output kept (invocation limits tick t cpu) (with_cpu t cpu s) same)
+    ap (λ (a : Answer). a.part) (answer_same (call_of (register cpu A7)) output kept (invocation limits tick t cpu) (with_thread_cpu t cpu s) same)
 effect_same output kept limits tick t pc Break s same = refl
 effect_same output kept limits tick t pc (Fault kind) s same = refl
 

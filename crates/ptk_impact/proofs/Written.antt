@@ -26,7 +26,7 @@ use Rattle.ptk_words_model.specs.Schedule.{after_choice_between, after_interval,
 use Rattle.ptk_words_model.specs.Withdrawal.{Expiry, after_timeout, after_expiries, due, in_order}
 use Rattle.ptk_words_model.specs.Unwinding.{after_end, after_destructor_or_end, after_unwinding_move, after_gate_step, cleanups_of}
 use Rattle.ptk_words_model.specs.Console.{arriving, without_arriving}
-use Rattle.ptk_words_model.specs.Decision.{after_arrival_for, after_arrival, after_arrivals, first_waiter, runner_of, with_cpu, invocation, after_effect, after_step, entry_of, step_cost, step_kind, after_whole_step, Decision, after_turn, ready_at, after_decision}
+use Rattle.ptk_words_model.specs.Decision.{after_arrival_for, after_arrival, after_arrivals, first_waiter, runner_of, with_thread_cpu, invocation, after_effect, after_step, entry_of, step_cost, step_kind, after_whole_step, Decision, after_turn, ready_at, after_decision}
 use Rattle.ptk_words_model.specs.Run.{decided, is_at, after_tick_until}
 use Rattle.ptk_impact.proofs.Outputs.{IsMore, is_kept, either_part, answer_written}
 
@@ -96,7 +96,7 @@ gate_kept Ended t thread s = refl
 
 effect_written : (limits : Limits) (tick t pc : ℕ) (effect : Effect) (s : Part) → IsMore s.console.output (after_effect limits tick t pc effect s).console.output
 effect_written limits tick t pc (Done cpu memory) s = is_kept s.console.output s.console.output refl
-effect_written limits tick t pc (Called cpu) s = answer_written (call_of (register cpu A7)) (invocation limits tick t cpu) (with_cpu t cpu s)
+effect_written limits tick t pc (Called cpu) s = answer_written (call_of (register cpu A7)) (invocation limits tick t cpu) (with_thread_cpu t cpu s)
 effect_written limits tick t pc Break s = is_kept s.console.output s.console.output refl
 effect_written limits tick t pc (Fault kind) s = is_kept s.console.output s.console.output refl
 

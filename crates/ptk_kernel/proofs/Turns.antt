@@ -15,7 +15,7 @@ use Rattle.ptk_words_model.specs.declared.StepKind.TheVariants.{UnwindingStart, 
 use Rattle.ptk_words_model.specs.State.{Part}
 use Rattle.ptk_words_model.specs.Priority.{thread_at}
 use Rattle.ptk_words_model.specs.Schedule.{after_interval}
-use Rattle.ptk_words_model.specs.Decision.{after_effect, after_step, Decision, turn, after_turn, after_whole_step, is_to_unwind, runner_of, spent_in_turn, step_cost, step_kind, traced_word, with_cpu, word_fetched}
+use Rattle.ptk_words_model.specs.Decision.{after_effect, after_step, Decision, turn, after_turn, after_whole_step, is_to_unwind, runner_of, spent_in_turn, step_cost, step_kind, traced_word, with_thread_cpu, word_fetched}
 use Rattle.ptk_words_invariant.proofs.Decisions.{runner_runs}
 use Rattle.ptk_gate.specs.Kept.{Kept, part_at, put_part, limits_at}
 use Rattle.ptk_gate.proofs.Ranks.{put_same}
@@ -138,7 +138,7 @@ call_stepped limits tick number next r s e runs kind =
     let is : next ≡ next_step_of s r = next_is s next r e runs in
     let word : word_fetched s.memory cpu.pc ≡ ECALL = call_fetched r.number number r.thread s (sym (ap (λ (n : NextStep). n.kind) is) ∙ kind) in
     let found : thread_at s.locks r.number ≡ Some r.thread = runner_found s.running s r (runner_runs s r runs) runs in
-    let gone : past_ecall next.thread next.pc s ≡ with_cpu r.number after s = ap (λ (n : NextStep). past_ecall n.thread n.pc s) is ∙ passed_as r.number (word_of (cpu.pc + 4)) r.thread s found in
+    let gone : past_ecall next.thread next.pc s ≡ with_thread_cpu r.number after s = ap (λ (n : NextStep). past_ecall n.thread n.pc s) is ∙ passed_as r.number (word_of (cpu.pc + 4)) r.thread s found in
     ap (λ (q : Part). (call_answer limits tick q).part) gone
     ∙ call_parts limits tick cpu.pc after r s runs
     ∙ ap (λ (effect : Effect). after_effect limits tick r.number cpu.pc effect s) (sym (ecall_calls cpu s.memory word))

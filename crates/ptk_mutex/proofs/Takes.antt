@@ -20,7 +20,7 @@ use Rattle.ptk_words_model.specs.Priority.{is_owner, ceiling_of, ceiling_for, in
 use Rattle.ptk_words_model.specs.Mutex.{owns}
 use Rattle.ptk_words_sync_invariant.proofs.Threads.{changed_same}
 use Rattle.ptk_words_sync_invariant.proofs.Raising.{level_of}
-use Rattle.ptk_threads.specs.Table.{stored_of}
+use Rattle.ptk_threads.specs.Table.{stored_of, with_priority}
 use Rattle.ptk_threads.proofs.Pools.{pool_changed-free}
 use Rattle.ptk_mutex_priorities.specs.Slots.{bare, with_waiters}
 use Rattle.ptk_mutex_priorities.proofs.Bare.{pool_get-bare}
@@ -30,7 +30,7 @@ use Rattle.ptk_mutex_priorities.proofs.Risen.{risen_stop}
 use Rattle.ptk_mutex_priorities.specs.Raised.{risen}
 use Rattle.ptk_mutex_priorities.proofs.Raising.{effective_mutex}
 use Rattle.ptk_mutex.specs.Visits.{reads, IsVisited}
-use Rattle.ptk_mutex.specs.Before.{freed, with_priority, IsBeforeTake, IsBeforeAssignment}
+use Rattle.ptk_mutex.specs.Before.{freed, IsBeforeTake, IsBeforeAssignment}
 use Rattle.ptk_words_model.specs.Condition.{is_named}
 use Rattle.ptk_mutex.specs.Gained.{awaiting, gained_by, gained_of}
 use Rattle.ptk_words_sync_invariant.proofs.ChainLaws.{false_true, IsNumber, next_bounded}

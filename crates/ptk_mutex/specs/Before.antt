@@ -6,6 +6,7 @@ use Rattle.ptk_words.specs.declared.threads.Thread.{Thread}
 use Rattle.ptk_words.specs.declared.mutexes.Owner.TheVariants.{Free}
 use Rattle.ptk_words_model.specs.State.{Mutex}
 use Rattle.ptk_words_model.specs.Priority.{assigned_of, effective_priorities}
+use Rattle.ptk_threads.specs.Table.{with_priority}
 
 -- the thread waits for nothing (XSH 2.8.4)
 abbrev pub awake : Thread → Thread
@@ -14,10 +15,6 @@ awake thread = record thread { wait = None }
 -- the mutex is not locked (pthread_mutex_lock)
 abbrev pub freed : Mutex → Mutex
 freed mutex = record mutex { owner = Free }
-
--- the thread has this assigned priority (XSH 2.8.4)
-abbrev pub with_priority : Priority → Thread → Thread
-with_priority priority thread = record thread { priority = priority }
 
 -- the effective priorities, were thread t to wait for nothing (pthread_mutex_lock)
 abbrev pub IsBeforeWait : ThreadNumber → List (Option Thread) → List (Option Mutex) → List Priority → Type 0

@@ -18,12 +18,12 @@ use Rattle.ptk_words_model.specs.State.{Console, Part, State, with_console, with
 use Rattle.ptk_words_model.specs.Priority.{effective_priority, thread_at}
 use Rattle.ptk_words_model.specs.Mutex.{wait_of}
 use Rattle.ptk_words_model.specs.Schedule.{after_choice_between, after_dispatch, at_head, first_ready}
-use Rattle.ptk_words_model.specs.Withdrawal.{Expiry, after_expiries, after_timeout, deadlines_of, due, in_order, in_order_with, is_before}
+use Rattle.ptk_words_model.specs.Withdrawal.{Expiry, after_expiries, after_timeout, deadlines_of, due, in_order, in_order_with, expires_before}
 use Rattle.ptk_words_model.specs.Console.{arriving, is_due_at, without_arriving}
 use Rattle.ptk_words_model.specs.Decision.{after_arrival, after_arrivals, after_decision, after_turn, Decision, first_waiter, ready_at, runner_at, runner_in, runner_of, spent_by_decision, spent_in_turn, step_cost, step_kind}
 use Rattle.ptk_words_model.specs.Run.{accounted, decided}
 use Rattle.ptk_words.specs.Faults.{is_active}
-use Rattle.ptk_words_sync_invariant.specs.Expiries.{IsLeastDue, IsNoneDue, after_expiry, after_next, next_expiry}
+use Rattle.ptk_words_sync_invariant.specs.Expiries.{IsLeastDue, IsNoneDue, after_expiry, after_next_expiry, next_expiry}
 use Rattle.ptk_words_sync_invariant.proofs.Expiries.{in_turn, next_least, next_only, one_at_a_time}
 use Rattle.ptk_words_sync_invariant.specs.Locks.{is_ready}
 use Rattle.ptk_words_invariant.specs.Well.{IsWell}
@@ -77,11 +77,11 @@ first_later tick (a ∷ coming) e = by (nat_le a.tick tick) refl e
 
 -- ---- the deadlines
 
-in_order_some : (a : Expiry) (xs : List Expiry) → in_order_with is_before a xs ≡ [] → ⊥
+in_order_some : (a : Expiry) (xs : List Expiry) → in_order_with expires_before a xs ≡ [] → ⊥
 in_order_some a [] e = cc
-in_order_some a (b ∷ bs) e = by (is_before a b) e
+in_order_some a (b ∷ bs) e = by (expires_before a b) e
   where
-    by : (c : Bool) → (if c then a ∷ b ∷ bs else b ∷ in_order_with is_before a bs) ≡ [] → ⊥
+    by : (c : Bool) → (if c then a ∷ b ∷ bs else b ∷ in_order_with expires_before a bs) ≡ [] → ⊥
     by true e = cc
     by false e = cc
 
@@ -92,10 +92,10 @@ in_order_none (a ∷ xs) e = absurd (in_order_some a (in_order xs) e)
 -- after the expiries of a tick no deadline is due
 expired_by : (n tick : ℕ) (s : Part) → length (in_order (due tick s)) ≡ n → (o : Option Expiry) → next_expiry tick (deadlines_of s.locks) ≡ o → next_expiry tick (deadlines_of (after_expiries tick s).locks) ≡ None
 expired_by n tick s e None none =
-    ap (λ (u : Part). next_expiry tick (deadlines_of u.locks)) (one_at_a_time tick s ∙ ap (λ (o : Option Expiry). after_next tick o s) none) ∙ none
+    ap (λ (u : Part). next_expiry tick (deadlines_of u.locks)) (one_at_a_time tick s ∙ ap (λ (o : Option Expiry). after_next_expiry tick o s) none) ∙ none
 expired_by zero tick s e (Some a) some = absurd (omega (arith, e, ap length (in_turn tick a s some).later))
 expired_by (suc n) tick s e (Some a) some =
-    ap (λ (u : Part). next_expiry tick (deadlines_of u.locks)) (one_at_a_time tick s ∙ ap (λ (o : Option Expiry). after_next tick o s) some)
+    ap (λ (u : Part). next_expiry tick (deadlines_of u.locks)) (one_at_a_time tick s ∙ ap (λ (o : Option Expiry). after_next_expiry tick o s) some)
     ∙ expired_by n tick (after_expiry a s) (omega (arith, e, ap length (in_turn tick a s some).later)) (next_expiry tick (deadlines_of (after_expiry a s).locks)) refl
 
 expired : (tick : ℕ) (s : Part) → next_expiry tick (deadlines_of (after_expiries tick s).locks) ≡ None

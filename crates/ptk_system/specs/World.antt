@@ -7,6 +7,7 @@ use Rattle.ptk_words_model.specs.Run.{alone, empty_part}
 use Rattle.ptk_console.specs.ConsoleTable.{no_limits}
 use Rattle.ptk_system_machine.specs.Kept.{limits_at}
 use Rattle.ptk_config.specs.Sections.{Section}
+pub use Rattle.ptk_config.specs.Sections.{no_section}
 use Rattle.ptk_config.specs.Configuration.{Configuration, IsConfiguration}
 use Rattle.ptk_image.specs.NamedFiles.{NamedFile}
 use Rattle.ptk_system_machine.specs.Accounts.{first_account}
@@ -14,10 +15,6 @@ use Rattle.ptk_system_machine.specs.Whole.{Whole, state_at}
 use Rattle.ptk_system.specs.Missing.{image_in}
 
 -- ---- what a partition is alone
-
--- the section past the last
-abbrev pub no_section : Section
-no_section = record { name = []; image = None; limits = no_limits; input = [] }
 
 -- the section of a partition
 abbrev pub section_at : Configuration → ℕ → Section

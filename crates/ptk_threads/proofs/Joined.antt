@@ -13,7 +13,8 @@ use Rattle.ptk_threads_slots.specs.declared.link.Ends.{Ends}
 use Rattle.ptk_threads_slots.specs.declared.slot.Slot.{Slot}
 use Rattle.ptk_threads_slots.specs.Links.{place_of, link_in, links_of, shared_links, threads_of, free_slot, no_link, own_link, shared_link, slot_at, AreLinksFrom, mark_of, first_or, IsAlong, queue_at, AreQueues}
 use Rattle.ptk_threads_slots.proofs.Along.{in_front, in_later, along_marked, marked_within}
-use Rattle.ptk_threads.specs.Shared.{first_slot, link_at, IsAlongLinks}
+use Rattle.ptk_clock.specs.ByThread.{first_slot}
+use Rattle.ptk_threads.specs.Shared.{link_at, IsAlongLinks}
 
 -- ---- links as they are kept, and in numbers of the partition
 
@@ -30,33 +31,33 @@ shared_at part first i from =
 
 -- ---- where a partition's slots lie
 
-pub first_set : (slots : List (List Slot)) (p q : ℕ) (w : List Slot) → length w ≡ length (part_of slots p) → first_slot (set slots p w) q ≡ first_slot slots q
+pub first_set : (slots : List (List Slot)) (p q : ℕ) (w : List Slot) → length w ≡ length (part_of slots p) → first_slot q (set slots p w) ≡ first_slot q slots
 first_set [] p q w e = refl
 first_set (part ∷ slots) zero zero w e = refl
-first_set (part ∷ slots) zero (suc q) w e = ap (λ n. n + first_slot slots q) e
+first_set (part ∷ slots) zero (suc q) w e = ap (λ n. n + first_slot q slots) e
 first_set (part ∷ slots) (suc p) zero w e = refl
 first_set (part ∷ slots) (suc p) (suc q) w e = ap (λ n. length part + n) (first_set slots p q w e)
 
-pub first_threads : (slots : List (List Slot)) (p : ℕ) → first_slot (map threads_of slots) p ≡ first_slot slots p
+pub first_threads : (slots : List (List Slot)) (p : ℕ) → first_slot p (map threads_of slots) ≡ first_slot p slots
 first_threads [] p = refl
 first_threads (part ∷ slots) zero = refl
-first_threads (part ∷ slots) (suc p) = ap (λ n. n + first_slot (map threads_of slots) p) (length-map part (λ (s : Slot). s.thread)) ∙ ap (λ n. length part + n) (first_threads slots p)
+first_threads (part ∷ slots) (suc p) = ap (λ n. n + first_slot p (map threads_of slots)) (length-map part (λ (s : Slot). s.thread)) ∙ ap (λ n. length part + n) (first_threads slots p)
 
-slot_joined : (slots : List (List Slot)) (p i : ℕ) (d e : Slot) → i < length (part_of slots p) → get_or (joined slots) (first_slot slots p + i) d ≡ get_or (part_of slots p) i e
+slot_joined : (slots : List (List Slot)) (p i : ℕ) (d e : Slot) → i < length (part_of slots p) → get_or (joined slots) (first_slot p slots + i) d ≡ get_or (part_of slots p) i e
 slot_joined [] p i d e lt = absurd (omega (arith, lt))
 slot_joined (part ∷ slots) zero i d e lt =
     let place : 0 + i ≡ i = omega arith in
     ap (λ n. get_or (part ++ joined slots) n d) place ∙ (get_or_append_left part (joined slots) d i lt ∙ get_or_default part i d e lt)
 slot_joined (part ∷ slots) (suc p) i d e lt =
-    let place : length part + first_slot slots p + i ≡ length part + (first_slot slots p + i) = omega arith in
-    ap (λ n. get_or (part ++ joined slots) n d) place ∙ (get_or-append-add part (joined slots) (first_slot slots p + i) d ∙ slot_joined slots p i d e lt)
+    let place : length part + first_slot p slots + i ≡ length part + (first_slot p slots + i) = omega arith in
+    ap (λ n. get_or (part ++ joined slots) n d) place ∙ (get_or-append-add part (joined slots) (first_slot p slots + i) d ∙ slot_joined slots p i d e lt)
 
 -- a thread's link in the shared table
-pub link_joined : (slots : List (List Slot)) (p k : ℕ) → AreLinksFrom (first_slot slots p) (part_of slots p) → 0 < k → k ≤ length (part_of slots p)
-    → link_at (joined slots) (slot_at (first_slot slots p) k) ≡ shared_link (first_slot slots p) (link_in (links_of (part_of slots p)) k)
+pub link_joined : (slots : List (List Slot)) (p k : ℕ) → AreLinksFrom (first_slot p slots) (part_of slots p) → 0 < k → k ≤ length (part_of slots p)
+    → link_at (joined slots) (slot_at (first_slot p slots) k) ≡ shared_link (first_slot p slots) (link_in (links_of (part_of slots p)) k)
 link_joined slots p zero from pos le = absurd (omega arith)
 link_joined slots p (suc i) from pos le =
-    let first = first_slot slots p in
+    let first = first_slot p slots in
     let place : first + (suc i - 1) ≡ first + i = omega arith in
     ap (link_at (joined slots)) place
     ∙ (ap (λ (s : Slot). s.link) (slot_joined slots p i (free_slot 0) (free_slot first) (omega (arith, le))) ∙ shared_at (part_of slots p) first i from)
@@ -86,10 +87,10 @@ member_below part ends i k are inside =
     let long : length (links_of part) ≡ length part = length-map part (λ (s : Slot). own_link s.link) in
     (within.0, omega (arith, within.1, long))
 
-pub along_joined : (slots : List (List Slot)) (ends : List Ends) (p i : ℕ) → AreLinksFrom (first_slot slots p) (part_of slots p) → AreQueues (links_of (part_of slots p)) ends
-    → IsAlongLinks (joined slots) i None (map (slot_at (first_slot slots p)) (queue_at (links_of (part_of slots p)) ends i))
+pub along_joined : (slots : List (List Slot)) (ends : List Ends) (p i : ℕ) → AreLinksFrom (first_slot p slots) (part_of slots p) → AreQueues (links_of (part_of slots p)) ends
+    → IsAlongLinks (joined slots) i None (map (slot_at (first_slot p slots)) (queue_at (links_of (part_of slots p)) ends i))
 along_joined slots ends p i from are =
-    along_shared (joined slots) (links_of (part_of slots p)) (first_slot slots p) i None (queue_at (links_of (part_of slots p)) ends i)
+    along_shared (joined slots) (links_of (part_of slots p)) (first_slot p slots) i None (queue_at (links_of (part_of slots p)) ends i)
     (λ k inside. (let below = member_below (part_of slots p) ends i k are inside in link_joined slots p k from below.0 below.1)) (are.each i).along
 
 -- ---- who stands beside a thread
@@ -152,11 +153,11 @@ beside_own first own link slot is beside =
     ]
 
 -- no link leads to another partition's slot
-pub stays : (slots : List (List Slot)) (ends : List Ends) (p slot other : ℕ) → AreLinksFrom (first_slot slots p) (part_of slots p) → AreQueues (links_of (part_of slots p)) ends
-    → first_slot slots p ≤ slot → slot < first_slot slots p + length (part_of slots p) → ((link_at (joined slots) slot).previous ≡ Some other) ⊎ ((link_at (joined slots) slot).next ≡ Some other)
-    → (first_slot slots p ≤ other) × (other < first_slot slots p + length (part_of slots p))
+pub stays : (slots : List (List Slot)) (ends : List Ends) (p slot other : ℕ) → AreLinksFrom (first_slot p slots) (part_of slots p) → AreQueues (links_of (part_of slots p)) ends
+    → first_slot p slots ≤ slot → slot < first_slot p slots + length (part_of slots p) → ((link_at (joined slots) slot).previous ≡ Some other) ⊎ ((link_at (joined slots) slot).next ≡ Some other)
+    → (first_slot p slots ≤ other) × (other < first_slot p slots + length (part_of slots p))
 stays slots ends p slot other from are low high beside =
-    let first = first_slot slots p in
+    let first = first_slot p slots in
     let k = slot - first + 1 in
     let place : slot_at first k ≡ slot = omega (arith, low) in
     let link : link_at (joined slots) slot ≡ shared_link first (link_in (links_of (part_of slots p)) k) = ap (link_at (joined slots)) (sym place) ∙ link_joined slots p k from (omega arith) (omega (arith, low, high)) in

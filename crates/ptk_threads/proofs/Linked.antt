@@ -22,7 +22,8 @@ use Rattle.ptk_threads_slots.proofs.Lists.{list_at, without_none, put_none, unqu
 use Rattle.ptk_threads_slots.proofs.Empty.{empty_queues, empty_lists}
 use Rattle.ptk_threads.specs.Queues.{LinkedThreads, queues_by, free_parts, AreLinked, AreListed, IsUnqueued, with_before, with_none, with_out}
 use Rattle.ptk_threads.specs.Table.{ThreadTable, with_queues, with_changed}
-use Rattle.ptk_threads.specs.Shared.{first_slot, AreAlongLinks, StayInPartitions}
+use Rattle.ptk_clock.specs.ByThread.{first_slot}
+use Rattle.ptk_threads.specs.Shared.{AreAlongLinks, StayInPartitions}
 use Rattle.ptk_threads.proofs.Joined.{own_same, from_same, first_set, first_threads, link_joined, along_joined, stays}
 
 -- ---- reading
@@ -90,7 +91,7 @@ linked_same slots ends p w are e = record {
   places = λ q lt. are.places q (rw (length-set slots p w) at lt);
   each = λ q. subst (λ links. AreQueues links (part_of ends q)) (sym (own_same (part_of (set slots p w) q) (part_of slots q) (links_same slots p q w e))) (are.each q);
   own = λ q. subst (λ first. AreLinksFrom first (part_of (set slots p w) q)) (sym (first_set slots p q w (same_length w (part_of slots p) e)))
-      (from_same (first_slot slots q) (part_of (set slots p w) q) (part_of slots q) (links_same slots p q w e) (are.own q));
+      (from_same (first_slot q slots) (part_of (set slots p w) q) (part_of slots q) (links_same slots p q w e) (are.own q));
 }
 
 pub linked_lent : (slots : List (List Slot)) (ends : List (List Ends)) (p : ℕ) (w : List Slot) → AreLinked slots ends → p < length (map threads_of slots) → shared_links w ≡ shared_links (part_of slots p) → AreLinked (lent slots p w) ends
@@ -128,8 +129,8 @@ linked_set slots ends p w late are lt queued same from long =
         | inl e ↦ rw (e, get_or-set_same slots p w [] lt, get_or-set_same ends p late [] lt') queued
         | inr ne ↦ rw (get_or-set_other slots p q w [] ne, get_or-set_other ends p q late [] ne) (are.each q)
       ];
-      own = λ q. rw (first_set slots p q w same) (elim (cases_eq q p) as (λ _. AreLinksFrom (first_slot slots q) (part_of (set slots p w) q)) [
-        | inl e ↦ rw (e, get_or-set_same slots p w [] lt) (from (first_slot slots p) (are.own p))
+      own = λ q. rw (first_set slots p q w same) (elim (cases_eq q p) as (λ _. AreLinksFrom (first_slot q slots) (part_of (set slots p w) q)) [
+        | inl e ↦ rw (e, get_or-set_same slots p w [] lt) (from (first_slot p slots) (are.own p))
         | inr ne ↦ rw (get_or-set_other slots p q w [] ne) (are.own q)
       ]);
     }
@@ -331,7 +332,7 @@ shared_lists slots ends v items are is e =
           (let long : length (part_of (map threads_of slots) p) ≡ length (part_of slots p) = ap length (part_threads slots p) ∙ length-map (part_of slots p) (λ (slot : Slot). slot.thread) in
           let link = link_joined slots p k (are.own p) pos (omega (arith, le, long)) in
           let none : mark_of (links_of (part_of slots p)) k ≡ None = ap (option_map place_of) (sym (ap (λ (l : SlotLink). l.queue) link) ∙ rw (first_threads slots p) at unnamed) in
-          rw (first_threads slots p) (link ∙ ap (shared_link (first_slot slots p)) ((are.each p).unmarked k none)));
+          rw (first_threads slots p) (link ∙ ap (shared_link (first_slot p slots)) ((are.each p).unmarked k none)));
     }))
 
 -- and no link of another partition's slot
@@ -376,13 +377,13 @@ shared_filled : (first n : ℕ) → AreLinksFrom first (filled (free_slot first)
 shared_filled first zero = refl
 shared_filled first (suc n) = ap (λ l. shared_link first no_link ∷ l) (shared_filled first n)
 
-own_filled : (first : ℕ) (counts : List ℕ) (p : ℕ) → AreLinksFrom (first + first_slot (free_parts first counts) p) (part_of (free_parts first counts) p)
+own_filled : (first : ℕ) (counts : List ℕ) (p : ℕ) → AreLinksFrom (first + first_slot p (free_parts first counts)) (part_of (free_parts first counts) p)
 own_filled first [] p = refl
 own_filled first (n ∷ counts) zero =
     let here : first + 0 ≡ first = omega arith in
     rw here (shared_filled first n)
 own_filled first (n ∷ counts) (suc p) =
-    let next : first + (length (filled (free_slot first) n) + first_slot (free_parts (first + n) counts) p) ≡ first + n + first_slot (free_parts (first + n) counts) p = omega (arith, length-replicate n (free_slot first)) in
+    let next : first + (length (filled (free_slot first) n) + first_slot p (free_parts (first + n) counts)) ≡ first + n + first_slot p (free_parts (first + n) counts) = omega (arith, length-replicate n (free_slot first)) in
     rw next (own_filled (first + n) counts p)
 
 places_filled : (counts : List ℕ) (m p : ℕ) → p < length counts → length (part_of (map (filled no_ends) (replicate (length counts) m)) p) ≡ m
@@ -403,7 +404,7 @@ linked_filled counts m e = record {
   parts = parts_filled 0 counts m;
   places = λ p lt. places_filled counts m p (rw (count_filled 0 counts) at lt) ∙ e;
   each = each_filled 0 counts m;
-  own = λ p. (let none : 0 + first_slot (free_parts 0 counts) p ≡ first_slot (free_parts 0 counts) p = omega arith in subst (λ first. AreLinksFrom first (part_of (free_parts 0 counts) p)) none (own_filled 0 counts p));
+  own = λ p. (let none : 0 + first_slot p (free_parts 0 counts) ≡ first_slot p (free_parts 0 counts) = omega arith in subst (λ first. AreLinksFrom first (part_of (free_parts 0 counts) p)) none (own_filled 0 counts p));
 }
 
 pub taken_same : (n m : ℕ) (x : ℕ) → n ≤ m → take n (replicate m x) ≡ replicate n x

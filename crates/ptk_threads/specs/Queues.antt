@@ -8,7 +8,7 @@ use Rattle.ptk_threads_slots.specs.declared.link.QueueName.{QueueName}
 use Rattle.ptk_threads_slots.specs.declared.slot.Slot.{Slot}
 use Rattle.ptk_threads_slots.specs.Links.{links_of, place_of, queues, free_slot, AreQueues, AreLinksFrom}
 use Rattle.ptk_threads_slots.specs.Changes.{put_before}
-use Rattle.ptk_threads.specs.Shared.{first_slot}
+use Rattle.ptk_clock.specs.ByThread.{first_slot}
 
 -- ---- one partition's queues by place
 
@@ -67,7 +67,7 @@ pub record AreLinked (slots : List (List Slot)) (ends : List (List Ends)) : Type
   pub parts : length ends ≡ length slots
   pub places : (p : ℕ) → p < length slots → length (part_of ends p) ≡ 128
   pub each : (p : ℕ) → AreQueues (links_of (part_of slots p)) (part_of ends p)
-  pub own : (p : ℕ) → AreLinksFrom (first_slot slots p) (part_of slots p)
+  pub own : (p : ℕ) → AreLinksFrom (first_slot p slots) (part_of slots p)
 
 -- each partition has 128 queues
 pub record AreListed (parts : ℕ) (queues : List (List (List ℕ))) : Type 0 where

@@ -19,7 +19,7 @@ use Rattle.ptk_timeline_segments.specs.declared.lane.Lane.{Lane}
 use Rattle.ptk_timeline_segments.specs.declared.marks.Marked.{Marked}
 use Rattle.ptk_timeline_segments.specs.declared.row.LaneRow.{LaneRow}
 use Rattle.ptk_timeline_segments.specs.declared.scale.Scale.{Scale}
-use Rattle.ptk_timeline_segments.specs.Histories.{history, is_begun, is_step_of, is_stepping, last_begun, look_at, look_in, owner_for, raised_of, step_end, stepping}
+use Rattle.ptk_timeline_segments.specs.Histories.{history, is_begun, is_entry_of, is_stepping, last_begun, look_at, look_in, owner_for, raised_of, step_end, stepping}
 use Rattle.ptk_timeline_segments.specs.Lanes.{GoesOn, IsDue, IsLaneOf, IsThreadsRow}
 use Rattle.ptk_timeline_segments.specs.Rows.{IsRowOf}
 use Rattle.ptk_timeline_segments.proofs.Marking.{Stays}
@@ -99,7 +99,7 @@ begun_sooner : (states : ℕ → State) (from n m begun : ℕ) → last_begun st
 begun_sooner states from zero m begun last le lt = absurd (let no : ⊥ = cc in no)
 begun_sooner states from (suc n) m begun last le lt = sooner_in states from n m begun (cases_lt n m) last le lt (λ within here. begun_sooner states from n m begun here within lt)
 
-step_entry : (t : ℕ) (o : Option Entry) → is_step_of t o ≡ true → (entry : Entry) × (o ≡ Some entry) × (entry.thread ≡ t)
+step_entry : (t : ℕ) (o : Option Entry) → is_entry_of t o ≡ true → (entry : Entry) × (o ≡ Some entry) × (entry.thread ≡ t)
 step_entry t None e = absurd (false≢true e)
 step_entry t (Some entry) e = (entry, refl, eqb-true entry.thread t e)
 
@@ -160,7 +160,7 @@ lane_passes world p from old new part is wide low before within steady scale mar
         by (inr until) = look_of t (states from).part (states k).part (steady.threads k le until)
 
     -- a step that begins among them is of a thread that runs
-    runs : (t begun : ℕ) → from ≤ begun → begun < world.tick → is_begun states begun ≡ true → is_step_of t (states (begun + 1)).part.last ≡ true → activity_in t (states from).part ≡ Running
+    runs : (t begun : ℕ) → from ≤ begun → begun < world.tick → is_begun states begun ≡ true → is_entry_of t (states (begun + 1)).part.last ≡ true → activity_in t (states from).part ≡ Running
     runs t begun le lt is_one mine =
         let it = step_entry t (states (begun + 1)).part.last mine in
         subst (λ (u : ℕ). activity_in u (states from).part ≡ Running) it.2
@@ -171,7 +171,7 @@ lane_passes world p from old new part is wide low before within steady scale mar
 
     -- a step that goes on behind the lane's tick is of a thread that runs
     going : (t k begun : ℕ) → old.due ≤ k → k < new.due → last_begun states old.scale.from (k + 1 - old.scale.from) ≡ Some begun
-        → is_step_of t (states (begun + 1)).part.last ≡ true → nat_lt k (step_end ticks begun (states (begun + 1))) ≡ true → activity_in t (states from).part ≡ Running
+        → is_entry_of t (states (begun + 1)).part.last ≡ true → nat_lt k (step_end ticks begun (states (begun + 1))) ≡ true → activity_in t (states from).part ≡ Running
     going t k begun le lt last mine on = by (cases_lt begun old.due) (cases_lt begun world.tick)
       where
         is_one : (old.scale.from ≤ begun) × (begun < old.scale.from + (k + 1 - old.scale.from)) × (is_begun states begun ≡ true)
@@ -191,7 +191,7 @@ lane_passes world p from old new part is wide low before within steady scale mar
         → (if is_stepping ticks states t k o then stepping (look_in t (states (k + 1)).part) else look_in t (states (k + 1)).part) ≡ look_in t (states (k + 1)).part
     looks t k le lt None last = refl
     looks t k le lt (Some begun) last =
-        stepping_by (is_step_of t (states (begun + 1)).part.last) (nat_lt k (step_end ticks begun (states (begun + 1)))) (look_in t (states (k + 1)).part)
+        stepping_by (is_entry_of t (states (begun + 1)).part.last) (nat_lt k (step_end ticks begun (states (begun + 1)))) (look_in t (states (k + 1)).part)
         (λ mine on.
         let same : look_in t (states (k + 1)).part ≡ look_in t (states from).part = same_look t (k + 1) (omega (arith, low, le)) (omega (arith, lt)) in
         subst (λ (l : Look). stepping l ≡ l) (sym same) (stepping_runs t (states from).part (going t k begun le lt last mine on)))

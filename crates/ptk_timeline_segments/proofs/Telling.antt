@@ -11,7 +11,7 @@ use Rattle.ptk_timeline_segments.specs.declared.look.Look.{Look}
 use Rattle.ptk_timeline_segments.specs.declared.lane.Lane.{Lane}
 use Rattle.ptk_timeline_segments.specs.declared.row.LaneRow.{LaneRow}
 use Rattle.ptk_timeline_segments.specs.declared.scale.Scale.{Scale}
-use Rattle.ptk_timeline_segments.specs.Histories.{history, is_begun, is_step_of, is_stepping, last_begun, look_at, look_in, sooner_of, step_end, stepping}
+use Rattle.ptk_timeline_segments.specs.Histories.{history, is_begun, is_entry_of, is_stepping, last_begun, look_at, look_in, sooner_of, step_end, stepping}
 use Rattle.ptk_timeline_segments.specs.Lanes.{GoesOn, IsDue, IsLaneOf, IsThreadsRow, StartsAs, busy_by, busy_of, is_busy}
 use Rattle.ptk_timeline_segments.specs.Marked.{BeginsAs, IsMarkedBy, IsMarkedTo}
 use Rattle.ptk_timeline_segments.specs.Rows.{IsRowOf}
@@ -54,7 +54,7 @@ begun_since states from tick to n le after before stays =
 
 -- ---- what a thread looks like there
 
-busy_same : (ticks : OwnTicks) (states : ℕ → State) (t n tick until : ℕ) (o : Option Entry) → (is_step_of t o && nat_lt n until) ≡ is_busy (busy_by until o) t n
+busy_same : (ticks : OwnTicks) (states : ℕ → State) (t n tick until : ℕ) (o : Option Entry) → (is_entry_of t o && nat_lt n until) ≡ is_busy (busy_by until o) t n
 busy_same ticks states t n tick until None = refl
 busy_same ticks states t n tick until (Some entry) = refl
 
@@ -63,7 +63,7 @@ ended_by : (ticks : OwnTicks) (states : ℕ → State) (t tick n : ℕ) (o : Opt
 ended_by ticks states t tick n None after ended = refl
 ended_by ticks states t tick n (Some begun) after ended =
     let past : step_end ticks begun (states (begun + 1)) ≤ n = omega (arith, ended begun refl, after) in
-    ap (λ (b : Bool). is_step_of t (states (begun + 1)).part.last && b) (le-ltb n (step_end ticks begun (states (begun + 1))) past) ∙ and-false (is_step_of t (states (begun + 1)).part.last)
+    ap (λ (b : Bool). is_entry_of t (states (begun + 1)).part.last && b) (le-ltb n (step_end ticks begun (states (begun + 1))) past) ∙ and-false (is_entry_of t (states (begun + 1)).part.last)
 
 stepping_same : (ticks : OwnTicks) (states : ℕ → State) (t tick n : ℕ) (last : Option ℕ) (b : Bool) → tick ≤ n → ((begun : ℕ) → last ≡ Some begun → step_end ticks begun (states (begun + 1)) ≤ tick)
     → is_stepping ticks states t n (if b then Some tick else last) ≡ is_busy (if b then busy_by (step_end ticks tick (states (tick + 1))) (states (tick + 1)).part.last else None) t n

@@ -57,15 +57,15 @@ sooner_of (Some next) end = min next end
 abbrev pub step_end : OwnTicks → ℕ → State → ℕ
 step_end ticks tick after = if is_active after.part.status then sooner_of after.account.next (unwrap_or (ticks.end_at tick) (tick + 1)) else tick + 1
 
--- the last step was the thread's
-abbrev pub is_step_of : ℕ → Option Entry → Bool
-is_step_of t None = false
-is_step_of t (Some entry) = entry.thread == t
+-- the step of an entry was the thread's
+abbrev pub is_entry_of : ℕ → Option Entry → Bool
+is_entry_of t None = false
+is_entry_of t (Some entry) = entry.thread == t
 
 -- at the tick a step that begins at this one is the thread's and goes on
 abbrev pub is_stepping : OwnTicks → (ℕ → State) → ℕ → ℕ → Option ℕ → Bool
 is_stepping ticks states t tick None = false
-is_stepping ticks states t tick (Some begun) = is_step_of t (states (begun + 1)).part.last && nat_lt tick (step_end ticks begun (states (begun + 1)))
+is_stepping ticks states t tick (Some begun) = is_entry_of t (states (begun + 1)).part.last && nat_lt tick (step_end ticks begun (states (begun + 1)))
 
 -- what a thread looks like at a tick of a picture that begins at another: as the state has it after the tick's decision, but running while a step of it goes on that begins in the picture (own)
 abbrev pub look_at : OwnTicks → (ℕ → State) → ℕ → ℕ → ℕ → Look

@@ -20,11 +20,11 @@ use Rattle.ptk_words_model.specs.declared.Spent.TheVariants.{Step}
 use Rattle.ptk_words_model.specs.declared.StepKind.TheVariants.{InstructionStep}
 use Rattle.ptk_words_model.specs.State.{Part, State, with_locks}
 use Rattle.ptk_words_model.specs.Priority.{thread_at, effective_priority}
-use Rattle.ptk_words_model.specs.Schedule.{first_ready, is_round_robin, is_running, after_choice, after_choice_between, after_dispatch, at_head, after_interval, after_turn_end, with_used}
+use Rattle.ptk_words_model.specs.Schedule.{first_ready, is_round_robin, is_running, after_choice, after_choice_between, after_dispatch, at_head, after_interval, after_turn_end, with_thread_used}
 use Rattle.ptk_words_model.specs.Withdrawal.{due, Expiry, in_order, after_timeout, after_expiries}
 use Rattle.ptk_words_model.specs.Console.{arriving}
 use Rattle.ptk_words_model.specs.Mutex.{wait_of}
-use Rattle.ptk_words_model.specs.Decision.{with_cpu, a0_after, entry_of, after_effect, after_arrivals, runner_of, step_kind, after_whole_step, Decision, turn, ready_at, decision}
+use Rattle.ptk_words_model.specs.Decision.{with_thread_cpu, a0_after, entry_of, after_effect, after_arrivals, runner_of, step_kind, after_whole_step, Decision, turn, ready_at, decision}
 use Rattle.ptk_words_model.specs.Run.{accounted}
 use Rattle.ptk_words_batches.specs.Quiet.{stays_before, IsQuiet, core_of, computed, with_row, after_row}
 use Rattle.ptk_words_batches.specs.QuietLaws.{PlainIsDecided}
@@ -75,7 +75,7 @@ with_registers_of cpu thread = record thread { cpu = cpu }
 
 -- the partition after an instruction that left these registers and this memory, with this last step
 abbrev pub moved : ℕ → Core → Option Entry → Part → Part
-moved t c last s = let after : Part = with_cpu t c.cpu (record s { memory = c.memory }) in record after { last = last }
+moved t c last s = let after : Part = with_thread_cpu t c.cpu (record s { memory = c.memory }) in record after { last = last }
 
 -- the partition with these threads in the place of its own
 abbrev pub with_threads : Core → Option Entry → Part → List (Option Thread) → Part
@@ -108,19 +108,19 @@ interval_by : (limits : Limits) (tick stop t : ℕ) (thread : Thread) (c : Core)
     → after_interval limits.interval 1 t (Some (with_registers_of c.cpu thread)) (moved t c last s) ≡ with_row t 1 c last s
 interval_by limits tick stop t thread c last s quiet lt false e =
     let u : Part = moved t c last s in
-    let at_end : Part = if nat_le limits.interval (thread.used + 1) then after_turn_end t u else with_used t (thread.used + 1) u in
+    let at_end : Part = if nat_le limits.interval (thread.used + 1) then after_turn_end t u else with_thread_used t (thread.used + 1) u in
     ap (λ (b : Bool). if is_running t s.running && b then at_end else u) e
     ∙ (ap (λ (b : Bool). if b then at_end else u) (and-false (is_running t s.running))
     ∙ ap (λ (o : Option Thread). with_threads c last s (pool_set s.threads t o)) (fifo_entry c.cpu thread (pool_get s.threads t) quiet.in_use e))
 interval_by limits tick stop t thread c last s quiet lt true e =
     let u : Part = moved t c last s in
-    let at_end : Part = if nat_le limits.interval (thread.used + 1) then after_turn_end t u else with_used t (thread.used + 1) u in
+    let at_end : Part = if nat_le limits.interval (thread.used + 1) then after_turn_end t u else with_thread_used t (thread.used + 1) u in
     let runs : is_running t s.running ≡ true = ap (is_running t) quiet.running ∙ eq-eqb t t refl in
     let within : thread.used + stop < limits.interval + tick = quiet.within e in
     let more : nat_le limits.interval (thread.used + 1) ≡ false = lt-leb limits.interval (thread.used + 1) (omega (arith, within, lt)) in
     ap (λ (b : Bool). if b && is_round_robin thread.policy then at_end else u) runs
     ∙ (ap (λ (b : Bool). if b then at_end else u) e
-    ∙ (ap (λ (b : Bool). if b then after_turn_end t u else with_used t (thread.used + 1) u) more
+    ∙ (ap (λ (b : Bool). if b then after_turn_end t u else with_thread_used t (thread.used + 1) u) more
     ∙ (ap (with_threads c last s) (changed_twice t (λ (v : Thread). record v { used = thread.used + 1 }) (with_registers_of c.cpu) s.threads)
     ∙ ap (λ (o : Option Thread). with_threads c last s (pool_set s.threads t o)) (robin_entry c.cpu thread (pool_get s.threads t) quiet.in_use e))))
 

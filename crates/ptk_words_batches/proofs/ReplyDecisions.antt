@@ -23,8 +23,8 @@ use Rattle.ptk_words_model.specs.declared.Spent.TheVariants.{Step}
 use Rattle.ptk_words_model.specs.declared.StepKind.TheVariants.{CallStep}
 use Rattle.ptk_words_model.specs.State.{Part, with_locks}
 use Rattle.ptk_words_model.specs.Priority.{thread_at, effective_priority}
-use Rattle.ptk_words_model.specs.Schedule.{with_reply, is_round_robin, is_running, after_interval, after_turn_end, with_used}
-use Rattle.ptk_words_model.specs.Decision.{with_cpu, word_fetched, entry_of, a0_after, after_effect, step_kind, after_whole_step, Decision, turn, runner_of}
+use Rattle.ptk_words_model.specs.Schedule.{with_reply, is_round_robin, is_running, after_interval, after_turn_end, with_thread_used}
+use Rattle.ptk_words_model.specs.Decision.{with_thread_cpu, word_fetched, entry_of, a0_after, after_effect, step_kind, after_whole_step, Decision, turn, runner_of}
 use Rattle.ptk_words_batches.specs.Quiet.{stays_before, IsQuiet, used_after, computed, with_row}
 use Rattle.ptk_words_batches.specs.Replies.{Outcome, with_outcome, IsReply, ReplyIsDecided, ReplyStaysQuiet, reply_entry, after_reply}
 use Rattle.ptk_words_batches.proofs.PlainSteps.{no_gate_by}
@@ -84,14 +84,14 @@ quiet_with limits tick stop t thread o s same quiet =
 
 -- the call leaves the caller's registers, and the outcome
 call_left : (limits : Limits) (tick t ticks : ℕ) (thread : Thread) (after : Processor) (o : Outcome) (s : Part) → IsReply limits ticks t thread after o s
-    → after_effect limits tick t thread.cpu.pc (effect_at thread.cpu s.memory) s ≡ with_cpu t after (with_outcome o s)
+    → after_effect limits tick t thread.cpu.pc (effect_at thread.cpu s.memory) s ≡ with_thread_cpu t after (with_outcome o s)
 call_left limits tick t ticks thread after o s reply =
     let cpu : Processor = with_next_pc thread.cpu in
     let left : Part = with_outcome o s in
     ap (λ (e : Effect). after_effect limits tick t thread.cpu.pc e s) (calls thread.cpu s.memory reply.word)
     ∙ (reply.replies tick
     ∙ (ap (λ threads. with_locks (λ locks. record locks { threads = threads }) left) (changed_twice t (with_reply reply.values) (with_registers_of cpu) s.threads)
-    ∙ ap (λ (c : Processor). with_cpu t c left) (sym reply.left)))
+    ∙ ap (λ (c : Processor). with_thread_cpu t c left) (sym reply.left)))
 
 entry_is : (tick t : ℕ) (after : Processor) (thread : Thread) (s : Part) → is_ended thread.phase ≡ false → word_fetched s.memory thread.cpu.pc ≡ ECALL
     → entry_of tick (runner t thread) (CallStep (register thread.cpu A7)) s.memory (Some (with_registers_of after thread)) ≡ reply_entry tick t thread after
@@ -119,19 +119,19 @@ interval_by : (limits : Limits) (tick stop t n : ℕ) (thread : Thread) (c : Cor
     → after_interval limits.interval n t (Some (with_registers_of c.cpu thread)) (moved t c last s) ≡ with_row t n c last s
 interval_by limits tick stop t n thread c last s quiet le false e =
     let u : Part = moved t c last s in
-    let at_end : Part = if nat_le limits.interval (thread.used + n) then after_turn_end t u else with_used t (thread.used + n) u in
+    let at_end : Part = if nat_le limits.interval (thread.used + n) then after_turn_end t u else with_thread_used t (thread.used + n) u in
     ap (λ (b : Bool). if is_running t s.running && b then at_end else u) e
     ∙ (ap (λ (b : Bool). if b then at_end else u) (and-false (is_running t s.running))
     ∙ ap (λ (o : Option Thread). with_threads c last s (pool_set s.threads t o)) (fifo_entry n c.cpu thread (pool_get s.threads t) quiet.in_use e))
 interval_by limits tick stop t n thread c last s quiet le true e =
     let u : Part = moved t c last s in
-    let at_end : Part = if nat_le limits.interval (thread.used + n) then after_turn_end t u else with_used t (thread.used + n) u in
+    let at_end : Part = if nat_le limits.interval (thread.used + n) then after_turn_end t u else with_thread_used t (thread.used + n) u in
     let runs : is_running t s.running ≡ true = ap (is_running t) quiet.running ∙ eq-eqb t t refl in
     let within : thread.used + stop < limits.interval + tick = quiet.within e in
     let more : nat_le limits.interval (thread.used + n) ≡ false = lt-leb limits.interval (thread.used + n) (omega (arith, within, le)) in
     ap (λ (b : Bool). if b && is_round_robin thread.policy then at_end else u) runs
     ∙ (ap (λ (b : Bool). if b then at_end else u) e
-    ∙ (ap (λ (b : Bool). if b then after_turn_end t u else with_used t (thread.used + n) u) more
+    ∙ (ap (λ (b : Bool). if b then after_turn_end t u else with_thread_used t (thread.used + n) u) more
     ∙ (ap (with_threads c last s) (changed_twice t (λ (v : Thread). record v { used = thread.used + n }) (with_registers_of c.cpu) s.threads)
     ∙ ap (λ (o : Option Thread). with_threads c last s (pool_set s.threads t o)) (robin_entry n c.cpu thread (pool_get s.threads t) quiet.in_use e))))
 

@@ -14,7 +14,7 @@ use Rattle.ptk_words_model.specs.State.{Mutex, Part, with_locks, with_keys, with
 use Rattle.ptk_words_model.specs.Priority.{effective_priority}
 use Rattle.ptk_words_model.specs.Schedule.{with_registers}
 use Rattle.ptk_words_model.specs.Calls.{replied}
-use Rattle.ptk_words_model.specs.Decision.{with_cpu, word_fetched, after_call, decision}
+use Rattle.ptk_words_model.specs.Decision.{with_thread_cpu, word_fetched, after_call, decision}
 use Rattle.ptk_words_batches.specs.Quiet.{IsQuiet, computed, with_row}
 
 -- what a quiet call leaves of a partition beside its caller's registers: the mutexes, the console's output, and the threads' values of the keys (own)
@@ -35,7 +35,7 @@ with_outcome o s =
 
 -- the call of these registers, which are the thread's, puts these values into its a0, a1 and so on, has this outcome and does nothing else, at whatever tick (own)
 abbrev pub RepliesWith : Limits → ThreadNumber → Processor → List Word → Outcome → Part → Type 0
-RepliesWith limits t cpu values o s = (tick : ℕ) → after_call limits tick t cpu (with_cpu t cpu s) ≡ replied t values (with_outcome o (with_cpu t cpu s))
+RepliesWith limits t cpu values o s = (tick : ℕ) → after_call limits tick t cpu (with_thread_cpu t cpu s) ≡ replied t values (with_outcome o (with_thread_cpu t cpu s))
 
 -- the next step of the thread is a quiet call of these ticks, after which it has these registers, and which has this outcome, with which each priority is as before (own)
 pub record IsReply (limits : Limits) (ticks t : ℕ) (thread : Thread) (after : Processor) (o : Outcome) (s : Part) : Type 0 where

@@ -22,7 +22,7 @@ use Rattle.ptk_words_model.specs.Keys.{DestructorCall, destructor_of, next_destr
 use Rattle.ptk_words_model.specs.Unwinding.{after_unwinding_start, after_destructor_or_end, after_unwinding_move, cleanups_of, after_return, after_gate_step}
 use Rattle.ptk_words_model.specs.Withdrawal.{after_expiries}
 use Rattle.ptk_words_model.specs.Console.{arriving, without_arriving}
-use Rattle.ptk_words_model.specs.Decision.{after_arrival_for, first_waiter, after_arrival, after_arrivals, runner_at, runner_in, runner_of, step_kind, step_cost, with_cpu, invocation, after_call, after_effect, after_step, entry_of, after_whole_step, Decision, after_turn, ready_at, after_decision}
+use Rattle.ptk_words_model.specs.Decision.{after_arrival_for, first_waiter, after_arrival, after_arrivals, runner_at, runner_in, runner_of, step_kind, step_cost, with_thread_cpu, invocation, after_call, after_effect, after_step, entry_of, after_whole_step, Decision, after_turn, ready_at, after_decision}
 use Rattle.ptk_words.specs.Faults.{is_active}
 use Rattle.ptk_words_invariant.specs.Well.{IsWell}
 use Rattle.ptk_words_sync_invariant.proofs.Lined.{ready_alive}
@@ -73,7 +73,7 @@ well_after_call limits tick t cpu s runs well = well_call (register cpu A7) (inv
 
 pub well_effect : (limits : Limits) (tick t pc : ℕ) (e : Effect) (s : Part) → HasLength (length s.memory) e → s.running ≡ Some t → IsWell limits s → IsWell limits (after_effect limits tick t pc e s)
 well_effect limits tick t pc (Done cpu memory) s same runs well = well_cpu limits t cpu (record s { memory = memory }) (well_memory limits memory s same well)
-well_effect limits tick t pc (Call cpu) s same runs well = well_after_call limits tick t cpu (with_cpu t cpu s) runs (well_cpu limits t cpu s well)
+well_effect limits tick t pc (Call cpu) s same runs well = well_after_call limits tick t cpu (with_thread_cpu t cpu s) runs (well_cpu limits t cpu s well)
 well_effect limits tick t pc Break s same runs well = well_halt limits (Stopped cause.Break pc) s well
 well_effect limits tick t pc (Fault kind) s same runs well = well_halt limits (Stopped (cause.Fault kind) pc) s well
 

@@ -10,9 +10,9 @@ use Rattle.ptk_words.proofs.Pools.{length-changed}
 use Rattle.ptk_words_model.specs.State.{Part, with_locks}
 use Rattle.ptk_words_model.specs.Priority.{thread_at}
 use Rattle.ptk_words_model.specs.Mutex.{wait_of}
-use Rattle.ptk_words_model.specs.Schedule.{with_thread, with_reply, with_used}
+use Rattle.ptk_words_model.specs.Schedule.{with_thread, with_reply, with_thread_used}
 use Rattle.ptk_words_model.specs.Calls.{replied}
-use Rattle.ptk_words_model.specs.Decision.{with_cpu}
+use Rattle.ptk_words_model.specs.Decision.{with_thread_cpu}
 use Rattle.ptk_words_model.specs.Unwinding.{is_alive, cpu_at_call, after_routine_call}
 use Rattle.ptk_words.specs.Threads.{is_ended}
 use Rattle.ptk_words_sync_invariant.specs.Locks.{is_ready, joiner_of, used_of}
@@ -101,7 +101,7 @@ pub well_replied : (limits : Limits) (t : ℕ) (values : List ℕ) (s : Part) �
 well_replied limits t values s well =
     well_changed limits t (with_reply values) s (λ thread e. record { wait = refl; joiner = refl; ended = refl }) (λ thread e. used_below limits t s well thread e) well
 
-pub well_cpu : (limits : Limits) (t : ℕ) (cpu : Processor) (s : Part) → IsWell limits s → IsWell limits (with_cpu t cpu s)
+pub well_cpu : (limits : Limits) (t : ℕ) (cpu : Processor) (s : Part) → IsWell limits s → IsWell limits (with_thread_cpu t cpu s)
 well_cpu limits t cpu s well =
     well_changed limits t (λ thread. record thread { cpu = cpu }) s (λ thread e. record { wait = refl; joiner = refl; ended = refl }) (λ thread e. used_below limits t s well thread e) well
 
@@ -109,7 +109,7 @@ pub well_routine_call : (limits : Limits) (t routine argument : ℕ) (s : Part) 
 well_routine_call limits t routine argument s well =
     well_changed limits t (λ thread. record thread { cpu = cpu_at_call routine argument thread.cpu }) s (λ thread e. record { wait = refl; joiner = refl; ended = refl }) (λ thread e. used_below limits t s well thread e) well
 
-pub well_used : (limits : Limits) (t used : ℕ) (s : Part) → used < limits.interval → IsWell limits s → IsWell limits (with_used t used s)
+pub well_used : (limits : Limits) (t used : ℕ) (s : Part) → used < limits.interval → IsWell limits s → IsWell limits (with_thread_used t used s)
 well_used limits t used s lt well = well_changed limits t (λ thread. record thread { used = used }) s (λ thread e. record { wait = refl; joiner = refl; ended = refl }) (λ thread e. lt) well
 
 pub well_policy : (limits : Limits) (t : ℕ) (policy : Policy) (priority : ℕ) (s : Part) → IsWell limits s

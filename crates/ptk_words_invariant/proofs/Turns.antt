@@ -12,7 +12,7 @@ use Rattle.ptk_words.proofs.Lists.{without_own, first_in}
 use Rattle.ptk_words_model.specs.State.{Part, with_locks}
 use Rattle.ptk_words_model.specs.Priority.{thread_at, effective_priority}
 use Rattle.ptk_words_model.specs.Mutex.{owns_raising}
-use Rattle.ptk_words_model.specs.Schedule.{unused, at_tail, at_head, first_ready, after_dispatch, after_choice_between, after_choice, is_round_robin, is_running, after_turn_end, with_used, after_interval}
+use Rattle.ptk_words_model.specs.Schedule.{unused, at_tail, at_head, first_ready, after_dispatch, after_choice_between, after_choice, is_round_robin, is_running, after_turn_end, with_thread_used, after_interval}
 use Rattle.ptk_words_model.specs.ThreadCalls.{after_placing, after_placing_at_tail}
 use Rattle.ptk_words.specs.Faults.{is_active}
 use Rattle.ptk_words_sync_invariant.specs.Locks.{is_ready}
@@ -142,12 +142,12 @@ well_choice limits s active well = choice_at limits s s.running (first_ready s.l
 -- ---- intervals
 
 interval_at : (limits : Limits) (cost t : ℕ) (thread : Thread) (s : Part) (b : Bool) → nat_le limits.interval (thread.used + cost) ≡ b → s.running ≡ Some t → IsWell limits s
-    → IsWell limits (if b then after_turn_end t s else with_used t (thread.used + cost) s)
+    → IsWell limits (if b then after_turn_end t s else with_thread_used t (thread.used + cost) s)
 interval_at limits cost t thread s true e runs well = well_turn_end limits t s runs well
 interval_at limits cost t thread s false e runs well = well_used limits t (thread.used + cost) s (leb-false limits.interval (thread.used + cost) e) well
 
 running_at : (limits : Limits) (cost t : ℕ) (thread : Thread) (s : Part) (b : Bool) → (b ≡ true → s.running ≡ Some t) → IsWell limits s
-    → IsWell limits (if b then (if nat_le limits.interval (thread.used + cost) then after_turn_end t s else with_used t (thread.used + cost) s) else s)
+    → IsWell limits (if b then (if nat_le limits.interval (thread.used + cost) then after_turn_end t s else with_thread_used t (thread.used + cost) s) else s)
 running_at limits cost t thread s true runs well = interval_at limits cost t thread s (nat_le limits.interval (thread.used + cost)) refl (runs refl) well
 running_at limits cost t thread s false runs well = well
 

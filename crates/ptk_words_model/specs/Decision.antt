@@ -90,9 +90,9 @@ step_cost InstructionStep = 1
 
 -- ---- carrying it out
 
--- the thread with these registers
-abbrev pub with_cpu : ThreadNumber → Processor → Part → Part
-with_cpu t cpu s = with_locks (with_thread t (λ thread. record thread { cpu = cpu })) s
+-- the partition in which the thread has these registers (RISC-V 2.1)
+abbrev pub with_thread_cpu : ThreadNumber → Processor → Part → Part
+with_thread_cpu t cpu s = with_locks (with_thread t (λ thread. record thread { cpu = cpu })) s
 
 -- the call that the registers state
 abbrev pub invocation : Limits → Tick → ThreadNumber → Processor → Invocation
@@ -114,8 +114,8 @@ after_call limits tick t cpu s = (answer_to (call_of (register cpu A7)) (invocat
 
 -- an instruction's effect on the state; a break or a fault leaves the registers and the memory (RISC-V 1.6, 2.8; own)
 abbrev pub after_effect : Limits → Tick → ThreadNumber → Pointer → Effect → Part → Part
-after_effect limits tick t pc (Done cpu memory) s = with_cpu t cpu (record s { memory = memory })
-after_effect limits tick t pc (Call cpu) s = after_call limits tick t cpu (with_cpu t cpu s)
+after_effect limits tick t pc (Done cpu memory) s = with_thread_cpu t cpu (record s { memory = memory })
+after_effect limits tick t pc (Call cpu) s = after_call limits tick t cpu (with_thread_cpu t cpu s)
 after_effect limits tick t pc Break s = with_halt (Stopped cause.Break pc) s
 after_effect limits tick t pc (Fault kind) s = with_halt (Stopped (cause.Fault kind) pc) s
 

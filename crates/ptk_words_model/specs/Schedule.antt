@@ -90,14 +90,14 @@ is_running t (Some r) = r == t
 abbrev pub after_turn_end : ThreadNumber → Part → Part
 after_turn_end t s = let next : Part = with_locks (at_tail t) s in record next { running = None }
 
--- the thread has used these ticks of its interval (XSH 2.8.4, SCHED_RR)
-abbrev pub with_used : ThreadNumber → Ticks → Part → Part
-with_used t used s = with_locks (with_thread t (λ thread. record thread { used = used })) s
+-- the partition in which the thread has used these ticks of its interval (XSH 2.8.4, SCHED_RR)
+abbrev pub with_thread_used : ThreadNumber → Ticks → Part → Part
+with_thread_used t used s = with_locks (with_thread t (λ thread. record thread { used = used })) s
 
 -- a thread of SCHED_RR that is still running after a step has used its ticks; at the interval it goes to the tail (XSH 2.8.4, SCHED_RR; own)
 abbrev pub after_interval : Ticks → Ticks → ThreadNumber → Option Thread → Part → Part
 after_interval interval cost t None s = s
 after_interval interval cost t (Some thread) s =
     if is_running t s.running && is_round_robin thread.policy
-    then (if nat_le interval (thread.used + cost) then after_turn_end t s else with_used t (thread.used + cost) s)
+    then (if nat_le interval (thread.used + cost) then after_turn_end t s else with_thread_used t (thread.used + cost) s)
     else s

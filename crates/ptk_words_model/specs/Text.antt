@@ -26,7 +26,7 @@ abbrev pub hex_digits : ℕ → ℕ → List Byte
 hex_digits zero n = []
 hex_digits (suc k) n = hex_digit (n / 16 ^ k % 16) ∷ hex_digits k n
 
--- a word with eight digits (own)
+-- a word as 0x and eight digits to base 16 (own)
 abbrev pub hex_word : Word → List Byte
 hex_word word = codes "0x" ++ hex_digits 8 word
 

@@ -6,7 +6,7 @@ use Rattle.ptk_words.specs.Pools.{pool_get, pool_set}
 use Rattle.ptk_words_model.specs.State.{Part}
 use Rattle.ptk_words_model.specs.Priority.{thread_at}
 use Rattle.ptk_words_model.specs.Mutex.{wait_of}
-use Rattle.ptk_words_model.specs.Withdrawal.{Expiry, expiry_of, is_before, in_order, due, deadlines_of, after_timeout, after_expiries}
+use Rattle.ptk_words_model.specs.Withdrawal.{Expiry, expiry_of, expires_before, in_order, due, deadlines_of, after_timeout, after_expiries}
 use Rattle.ptk_words_sync_invariant.specs.Conditions.{AreSyncs}
 
 -- the threads whose deadline is at most the tick, of deadlines by thread number
@@ -23,7 +23,7 @@ next_expiry tick deadlines = slice_get (in_order (due_among tick deadlines)) 0
 pub record IsLeastDue (tick : Tick) (deadlines : List (Option Tick)) (a : Expiry) : Type 0 where
   pub own : pool_get deadlines a.thread ≡ Some a.deadline
   pub due : a.deadline ≤ tick
-  pub least : (b : Expiry) → pool_get deadlines b.thread ≡ Some b.deadline → b.deadline ≤ tick → is_before b a ≡ false
+  pub least : (b : Expiry) → pool_get deadlines b.thread ≡ Some b.deadline → b.deadline ≤ tick → expires_before b a ≡ false
 
 -- none of the deadlines is due
 abbrev pub IsNoneDue : Tick → List (Option Tick) → Type 0
@@ -40,9 +40,9 @@ abbrev pub after_expiry : Expiry → Part → Part
 after_expiry a s = after_timeout a.thread (wait_of (thread_at s.locks a.thread)) s
 
 -- the state after the next expiry's timeout and the expiries that are due then; where none is next, as it is (own)
-abbrev pub after_next : Tick → Option Expiry → Part → Part
-after_next tick None s = s
-after_next tick (Some a) s = after_expiries tick (after_expiry a s)
+abbrev pub after_next_expiry : Tick → Option Expiry → Part → Part
+after_next_expiry tick None s = s
+after_next_expiry tick (Some a) s = after_expiries tick (after_expiry a s)
 
 -- the due deadlines in order are the least one, and those that are due without it; so too after its thread's timeout
 pub record AreExpiriesInTurn (tick : Tick) (a : Expiry) (s : Part) : Type 0 where

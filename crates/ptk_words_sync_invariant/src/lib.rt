@@ -21,7 +21,7 @@ ghost use Rattle.ptk_words_model.specs.State.{Syncs, Part};
 ghost use Rattle.ptk_words_model.specs.Withdrawal.{Expiry, deadlines_of, after_expiries};
 ghost use Rattle.ptk_words_sync_invariant.specs.LockLaws.{MutexMovesKeepSyncs, OwnerEndKeepsSyncs};
 ghost use Rattle.ptk_words_sync_invariant.specs.SyncLaws.{WaitsKeepSyncs, WakingsKeepSyncs, ExpiriesKeepSyncs};
-ghost use Rattle.ptk_words_sync_invariant.specs.Expiries.{next_expiry, IsNextExpiry, AreExpiriesInTurn, IsExpiryWhole, after_next};
+ghost use Rattle.ptk_words_sync_invariant.specs.Expiries.{next_expiry, IsNextExpiry, AreExpiriesInTurn, IsExpiryWhole, after_next_expiry};
 
 /// A lock, a trylock and an unlock of the running thread keep threads, line, mutexes and condition variables whole;
 /// where it waits, no thread runs.
@@ -60,5 +60,5 @@ pub fn expiries_one_at_a_time()
     ensures only { (tick : ℕ) → (deadlines : List (Option ℕ)) → (next : Option Expiry) → IsNextExpiry tick deadlines next → next ≡ next_expiry tick deadlines }
     ensures in_turn { (tick : ℕ) → (a : Expiry) → (s : Part) → next_expiry tick (deadlines_of s.locks) ≡ Some a → AreExpiriesInTurn tick a s }
     ensures whole { (interval : ℕ) → (a : Expiry) → (s : Part) → IsExpiryWhole interval a s }
-    ensures step { (tick : ℕ) → (s : Part) → after_expiries tick s ≡ after_next tick (next_expiry tick (deadlines_of s.locks)) s }
+    ensures step { (tick : ℕ) → (s : Part) → after_expiries tick s ≡ after_next_expiry tick (next_expiry tick (deadlines_of s.locks)) s }
 {}

@@ -31,7 +31,7 @@ use Rattle.ptk_words_model.specs.Keys.{DestructorCall, next_destructor}
 use Rattle.ptk_words_model.specs.Console.{arriving, without_arriving}
 use Rattle.ptk_words_model.specs.Unwinding.{after_join_by, after_release, after_end, after_destructor_or_end, after_unwinding_move, cleanups_of, after_gate_step}
 use Rattle.ptk_words_model.specs.Withdrawal.{after_timeout, Expiry, due, in_order, after_expiries}
-use Rattle.ptk_words_model.specs.Decision.{after_arrival_for, first_waiter, after_arrival, after_arrivals, runner_of, step_kind, step_cost, with_cpu, invocation, after_effect, after_step, entry_of, Decision, after_turn, ready_at, after_decision, spent_by_decision}
+use Rattle.ptk_words_model.specs.Decision.{after_arrival_for, first_waiter, after_arrival, after_arrivals, runner_of, step_kind, step_cost, with_thread_cpu, invocation, after_effect, after_step, entry_of, Decision, after_turn, ready_at, after_decision, spent_by_decision}
 use Rattle.ptk_words_model.specs.Run.{empty_part, fits, memory_of, with_image, start_part, accounted, decided, is_at, after_tick_until, alone}
 use Rattle.ptk_words_invariant.proofs.Effects.{HasLength, effect_length}
 use Rattle.ptk_words_invariant.proofs.Starts.{memory_fits}
@@ -80,8 +80,8 @@ gate_step_sized l Ended t thread s h = h
 
 effect_sized : (l : Limits) (tick t pc : ℕ) (effect : Effect) (s : Part) → HasLength l.memory effect → IsSized l s → IsSized l (after_effect l tick t pc effect s)
 effect_sized l tick t pc (Call cpu) s k h =
-    let read : IsSized l (with_cpu t cpu s) = search kept depth 8 in
-    (call_sized (call_of (register cpu A7)) (invocation l tick t cpu) (with_cpu t cpu s) read).part
+    let read : IsSized l (with_thread_cpu t cpu s) = search kept depth 8 in
+    (call_sized (call_of (register cpu A7)) (invocation l tick t cpu) (with_thread_cpu t cpu s) read).part
 effect_sized l tick t pc _ s k h = search kept depth 8
 
 step_sized : (l : Limits) (tick : ℕ) (r : Runner) (kind : StepKind) (s : Part) → IsSized l s → IsSized l (after_step l tick r kind s)

@@ -2,7 +2,7 @@ use Rattle.std.proofs.Common.{◌^◌, ◌-◌, false}
 use Rattle.std.specs.Prelude.{string_bytes}
 use Rattle.std.specs.Fmt.{digits, digits_output, shown_prefix, radix_prefix, padded_integral, format_spec}
 use Rattle.std.proofs.lemmas.Result.{on_ok_weaker}
-use Rattle.ptk_disasm.specs.Disassembly.{hex_word}
+use Rattle.ptk_disasm.specs.Disassembly.{padded_hex}
 use Rattle.ptk_disasm.proofs.Written.{hex-eight, shape-appended}
 use Rattle.ptk_disasm.proofs.lines.push_hexadecimal.Goals as goal
 
@@ -10,6 +10,6 @@ pub returns : goal.returns
 returns c =
     on_ok_weaker c.write.result
     (shape-appended c.laid_out.result (format_spec 32 0 4 8 (2 ^ 64 - 1)) (λ s. padded_integral s false (shown_prefix s (radix_prefix c.in_radix.result.base)))
-    (digits_output c.in_radix.result) (digits 16 false c.args.word) (hex_word c.args.word) (string_bytes c.args.out.now) (string_bytes c.write.new.self)
+    (digits_output c.in_radix.result) (digits 16 false c.args.word) (padded_hex c.args.word) (string_bytes c.args.out.now) (string_bytes c.write.new.self)
     c.laid_out.ensures c.in_radix.ensures (hex-eight c.args.word))
     c.write.ensures.bytes
