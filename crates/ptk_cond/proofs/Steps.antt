@@ -5,7 +5,7 @@ use Rattle.std.specs.Prelude.{Option, Some, None, IsSome}
 use Rattle.std.proofs.Math.ListN.{set}
 use Rattle.std.proofs.lemmas.List.{length-set, set-set, set-get_or}
 use Rattle.ptk_words.specs.Pools.{pool_get, pool_set, is_in, without, first_of_greatest}
-use Rattle.ptk_words.proofs.Pools.{changed_own}
+use Rattle.ptk_words.proofs.Pools.{changed_own, changed_twice}
 use Rattle.ptk_words_parted.specs.Parts.{part_of}
 use Rattle.ptk_words_parted.proofs.Cuts.{set_part-same}
 use Rattle.ptk_words_model.specs.State.{Condition, Locks, Mutex, Syncs}
@@ -25,7 +25,7 @@ use Rattle.ptk_threads_slots.specs.Changes.{few_of}
 use Rattle.ptk_threads_slots.specs.declared.thread_list.Members.{Members}
 use Rattle.ptk_threads_slots.specs.declared.thread_list.Members.TheVariants.{NoMember, OnlyMember}
 use Rattle.ptk_threads.specs.Table.{ThreadTable, thread_in, stored_of, with_changed, with_wait}
-use Rattle.ptk_threads.proofs.Pools.{pool_changed-changed, part_of-set}
+use Rattle.ptk_threads.proofs.Pools.{part_of-set}
 use Rattle.ptk_mutex.specs.SyncRosters.{Rostered}
 use Rattle.ptk_mutex.specs.Waiters.{condition_of}
 use Rattle.ptk_mutex.specs.Sound.{IsSound}
@@ -253,6 +253,6 @@ signalled_more p c left rest total a b after start e signalled more synced =
       same = ap (iterate (after_signal c) left) at ∙ ap (λ (n : ℕ). iterate (after_signal c) n (of_part p b)) (sym e) ∙ signalled.same;
     }
 
-pub ruleset waits = (has_part, has_conditions, has_ready, sleeper_free, still_in_use, changed_own, pool_changed-changed, part_of-set, set-set, set-get_or, length-set)
+pub ruleset waits = (has_part, has_conditions, has_ready, sleeper_free, still_in_use, changed_own, changed_twice, part_of-set, set-set, set-get_or, length-set)
 
 pub ruleset steps = (has_part, has_conditions, has_ready, waited_used, waiter_may, waiter_in_use, waiter_room, stays, set_part-same)

@@ -10,7 +10,7 @@ use Rattle.ptk_words.specs.declared.threads.Thread.{Thread}
 use Rattle.ptk_words.specs.declared.threads.Wait.{Wait}
 use Rattle.ptk_words.specs.declared.threads.Wait.TheVariants.{ConditionWait}
 use Rattle.ptk_words.proofs.Lists.{in_push, in_without, first_in}
-use Rattle.ptk_words.proofs.Pools.{changed_own, changed_other}
+use Rattle.ptk_words.proofs.Pools.{changed_own, changed_other, get-set_other}
 use Rattle.ptk_words_model.specs.State.{Condition, Locks, Syncs}
 use Rattle.ptk_words_model.specs.Priority.{awaited, thread_at, effective_priority, effective_priorities}
 use Rattle.ptk_words_model.specs.Schedule.{with_thread}
@@ -19,7 +19,6 @@ use Rattle.ptk_words_model.specs.Condition.{condition_waiters, mutex_of_conditio
 use Rattle.ptk_words_sync_invariant.specs.Conditions.{HasRoom}
 use Rattle.ptk_words.specs.Threads.{condition_of_wait}
 use Rattle.ptk_threads.specs.Table.{stored_of}
-use Rattle.ptk_threads.proofs.Pools.{pool_get-set_other}
 use Rattle.ptk_mutex.specs.Waiters.{condition_of}
 use Rattle.ptk_mutex.specs.Tables.{AreLocked}
 use Rattle.ptk_mutex.proofs.Locked.{stored_first, other_than}
@@ -48,7 +47,7 @@ own_waiters k zero ks pool h = let no : ⊥ = cc in absurd no
 own_waiters k (suc i) ks pool h = own_entry k i ks pool h
 
 other_waiters : (k c d : ℕ) (x : Option Condition) (pool : List (Option Condition)) → d ≢ c → is_in k (waiters_on (pool_get (pool_set pool c x) d)) ≡ true → is_in k (waiters_on (pool_get pool d)) ≡ true
-other_waiters k c d x pool ne h = subst (λ (y : Option Condition). is_in k (waiters_on y) ≡ true) (pool_get-set_other pool c d x ne) h
+other_waiters k c d x pool ne h = subst (λ (y : Option Condition). is_in k (waiters_on y) ≡ true) (get-set_other c d x pool ne) h
 
 -- ---- one unblocked
 

@@ -17,6 +17,7 @@ use Rattle.ptk_words_model.specs.Console.{arriving, is_due_at, without_arriving}
 use Rattle.ptk_words_model.specs.Priority.{thread_at, effective_priority}
 use Rattle.ptk_words_model.specs.Decision.{after_arrival_for, first_waiter, after_arrival, after_arrivals}
 use Rattle.ptk_words_sync_invariant.specs.Locks.{is_ready}
+use Rattle.ptk_words_sync_invariant.proofs.Threads.{waits_used}
 use Rattle.ptk_words_invariant.specs.Well.{IsWell}
 use Rattle.ptk_words.specs.Pools.{is_in}
 use Rattle.ptk_words_invariant.proofs.Parts.{well_console}
@@ -90,10 +91,6 @@ next_well limits tick s well = well_console limits (without_next tick s.console)
 pub byte_well : (limits : Limits) (byte : ℕ) (s : Part) → IsWell limits s → IsWell limits (after_byte limits.ring byte s)
 byte_well limits byte s well = well_arrival_for limits (first_waiter s) byte s (λ t e. first_in (effective_priority s.locks) t s.console.waiters e) well
 
-waits_used : (o : Option Thread) → wait_of o ≡ Some InputWait → IsSome o
-waits_used None e = absurd (let no : ⊥ = cc in no)
-waits_used (Some thread) e = refl
-
 ready_wait : (b : Bool) (o : Option Wait) → o ≡ Some InputWait → (is_none o && b) ≡ false
 ready_wait b o e = rw e refl
 
@@ -106,7 +103,7 @@ waiter_waits limits s t o well first is = well.waiters_wait t (first_in (effecti
 
 -- the waiter is in use
 pub waiter_in_use : (limits : Limits) (s : Part) (t : ℕ) (o : Option ℕ) → IsWell limits s → o ≡ first_waiter s → o ≡ Some t → IsSome (thread_at s.locks t)
-waiter_in_use limits s t o well first is = waits_used (thread_at s.locks t) (waiter_waits limits s t o well first is)
+waiter_in_use limits s t o well first is = waits_used InputWait (thread_at s.locks t) (waiter_waits limits s t o well first is)
 
 -- and not in the line
 pub waiter_fresh : (limits : Limits) (s : Part) (t : ℕ) (o : Option ℕ) → IsWell limits s → o ≡ first_waiter s → o ≡ Some t → is_in t s.line ≡ false

@@ -13,19 +13,16 @@ use Rattle.ptk_words_model.specs.Priority.{thread_at}
 use Rattle.ptk_words_model.specs.Mutex.{wait_of}
 use Rattle.ptk_words_model.specs.Withdrawal.{without_joiner}
 use Rattle.ptk_words_sync_invariant.proofs.Lined.{not_ready_out}
+use Rattle.ptk_words_sync_invariant.proofs.Threads.{waits_used}
 use Rattle.ptk_words_invariant.specs.Well.{IsWell}
 use Rattle.ptk_words_invariant.proofs.Whole.{lined_of}
 use Rattle.ptk_words_invariant.proofs.Waits.{waits_not_ready}
 use Rattle.ptk_words_sync_invariant.specs.Conditions.{IsNoWaiter}
 use Rattle.ptk_gate_moves.proofs.NoWaiters.{reader_apart, sleeper_apart, joiner_apart}
 
-waits_some : (wait : Wait) (o : Option Thread) → wait_of o ≡ Some wait → IsSome o
-waits_some wait None e = absurd (let no : ⊥ = cc in no)
-waits_some wait (Some thread) e = refl
-
 -- a thread that waits is in use
 pub waits_in_use : (t : ℕ) (wait : Wait) (o : Option Wait) (s : Part) → wait_of (thread_at s.locks t) ≡ o → o ≡ Some wait → IsSome (thread_at s.locks t)
-waits_in_use t wait o s e is = waits_some wait (thread_at s.locks t) (e ∙ is)
+waits_in_use t wait o s e is = waits_used wait (thread_at s.locks t) (e ∙ is)
 
 -- and not in the line
 pub waits_out : (limits : Limits) (t : ℕ) (wait : Wait) (o : Option Wait) (s : Part) → IsWell limits s → wait_of (thread_at s.locks t) ≡ o → o ≡ Some wait → is_in t s.line ≡ false

@@ -3,16 +3,16 @@ use Rattle.std.proofs.Common.{◌≡◌, ◌≢◌, ℕ, true, false, refl, sym,
 use Rattle.std.proofs.lemmas.Bool.{false≢true}
 use Rattle.std.specs.Prelude.{Option, Some, None, IsSome, IfSome}
 use Rattle.ptk_words.specs.declared.sections.Limits.{Limits}
-use Rattle.ptk_words.specs.declared.threads.Thread.{Thread}
 use Rattle.ptk_words.specs.declared.threads.Wait.TheVariants.{JoinWait}
 use Rattle.ptk_words_model.specs.State.{Locks, Part, with_locks}
 use Rattle.ptk_words_model.specs.Priority.{thread_at}
-use Rattle.ptk_words_model.specs.Mutex.{wait_of, after_owner_end}
+use Rattle.ptk_words_model.specs.Mutex.{after_owner_end}
 use Rattle.ptk_words_model.specs.Unwinding.{after_release, after_last_end, after_end}
 use Rattle.ptk_words_sync_invariant.specs.Locks.{joiner_of, is_ready}
 use Rattle.ptk_words_invariant.specs.Well.{IsWell}
 use Rattle.ptk_words.specs.Pools.{is_in}
 use Rattle.ptk_words_sync_invariant.proofs.Lined.{not_ready_out}
+use Rattle.ptk_words_sync_invariant.proofs.Threads.{waits_used}
 use Rattle.ptk_words_invariant.proofs.Whole.{lined_of}
 use Rattle.ptk_words_invariant.proofs.Waits.{waits_not_ready}
 use Rattle.ptk_gate_moves.specs.Held.{Held, limits_here}
@@ -23,13 +23,9 @@ use Rattle.ptk_gate_threads.proofs.Owners.{well_abandonment, release_same}
 
 -- ---- the joiner of a thread in a whole state
 
-waits_in_use : (u : ℕ) (o : Option Thread) → wait_of o ≡ Some (JoinWait u) → IsSome o
-waits_in_use u None e = absurd (let no : ⊥ = cc in no)
-waits_in_use u (Some thread) e = refl
-
 joiner_in_use_at : (limits : Limits) (t : ℕ) (s : Part) (o : Option ℕ) → joiner_of (thread_at s.locks t) ≡ o → IsWell limits s → IfSome o (λ u. IsSome (thread_at s.locks u))
 joiner_in_use_at limits t s None e well = tt
-joiner_in_use_at limits t s (Some u) e well = waits_in_use t (thread_at s.locks u) (well.joiners_wait u t e)
+joiner_in_use_at limits t s (Some u) e well = waits_used (JoinWait t) (thread_at s.locks u) (well.joiners_wait u t e)
 
 joiner_in_use : (limits : Limits) (t : ℕ) (s : Part) → IsWell limits s → IfSome (joiner_of (thread_at s.locks t)) (λ u. IsSome (thread_at s.locks u))
 joiner_in_use limits t s well = joiner_in_use_at limits t s (joiner_of (thread_at s.locks t)) refl well

@@ -1,11 +1,10 @@
 -- The thread whose deadline comes: a waiter of a mutex, or a sleeper, whose waking changes no effective priority.
 use Rattle.std.proofs.Common.{◌≡◌, ℕ, [], ◌∷◌, ◌++◌, refl, sym, ◌∙◌, ap}
-use Rattle.std.specs.Prelude.{Bool, true, false, Option, Some, None, IsSome}
+use Rattle.std.specs.Prelude.{Bool, true, false, Option, Some, None}
 use Rattle.std.proofs.Math.ListN.{set}
 use Rattle.ptk_words.specs.Pools.{is_in}
 use Rattle.ptk_words.specs.Faults.{errno_number}
 use Rattle.ptk_words.specs.declared.faults.Errno.TheVariants.{ETIMEDOUT}
-use Rattle.ptk_words.specs.declared.threads.Thread.{Thread}
 use Rattle.ptk_words.specs.declared.threads.Wait.{Wait}
 use Rattle.ptk_words.specs.declared.threads.Wait.TheVariants.{SleepWait, MutexWait}
 use Rattle.ptk_words_parted.specs.Parts.{part_of}
@@ -32,11 +31,6 @@ use Rattle.ptk_cond.proofs.LockSteps.{put_ready}
 use Rattle.ptk_cond.specs.Tables.{put_syncs, AreWaiting}
 use Rattle.ptk_cond.proofs.Steps.{put_none}
 use Rattle.ptk_gate_waits.specs.Timeouts.{after_sync_timeout, IsBlocked}
-
--- a thread that waits is in use
-pub waits_used : (o : Option Thread) (wait : Wait) → wait_of o ≡ Some wait → IsSome o
-waits_used None wait e = absurd (cc e)
-waits_used (Some thread) wait e = refl
 
 -- a thread in a wait for a mutex is one of its waiters
 pub waiter_by : (t m : ℕ) (deadline : Option ℕ) (syncs : Syncs) → IsBlocked syncs t → wait_of (thread_at syncs.locks t) ≡ Some (MutexWait m deadline) → IsWaiter syncs.locks m t

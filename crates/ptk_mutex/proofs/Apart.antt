@@ -16,7 +16,7 @@ use Rattle.ptk_words.specs.declared.mutexes.Owner.TheVariants.{Free, Abandoned, 
 use Rattle.ptk_words.specs.declared.mutexes.Soundness.{Soundness}
 use Rattle.ptk_words.specs.declared.mutexes.Soundness.TheVariants.{Consistent, Inconsistent, Unrecoverable}
 use Rattle.ptk_words.proofs.Lists.{out_push}
-use Rattle.ptk_words.proofs.Pools.{changed_own, changed_other, pool_set_all}
+use Rattle.ptk_words.proofs.Pools.{changed_own, changed_other, get-set_other, pool_set_all}
 use Rattle.ptk_words_model.specs.State.{Mutex, Condition, Locks}
 use Rattle.ptk_words_model.specs.declared.LockMove.{LockMove}
 use Rattle.ptk_words_model.specs.declared.LockMove.TheVariants.{Takes, Recovers, Counts, Waits, Refuses}
@@ -30,7 +30,6 @@ use Rattle.ptk_words_sync_invariant.proofs.Conditions.{condition_wait, room_map,
 use Rattle.ptk_words_sync_invariant.proofs.MutexPlaces.{pool_set_same}
 use Rattle.ptk_words_sync_invariant.proofs.Rooms.{counts_owner, roomy_joined, roomy_left, roomy_soundness, free_counts}
 use Rattle.ptk_words_sync_invariant.proofs.ConditionWaits.{down_below}
-use Rattle.ptk_threads.proofs.Pools.{pool_get-set_other}
 use Rattle.ptk_mutex_priorities.specs.declared.slot.Change.TheVariants.{Abandon, Release, Mark}
 use Rattle.ptk_mutex.specs.Tables.{AreLocked, IsWaiter, MayGet, MayWait}
 use Rattle.ptk_mutex.specs.Moves.{after_assignment, after_withdrawal}
@@ -405,7 +404,7 @@ apart_closed m k locks = apart_entry m k None locks (λ counts. let no : ⊥ = c
 
 -- another thread's number is taken
 pub apart_created : (n k : ℕ) (x : Option Thread) (locks : Locks) → k ≢ n → IsApart locks (record locks { threads = pool_set locks.threads n x }) k
-apart_created n k x locks ne = record { thread = pool_get-set_other locks.threads n k x ne; out = λ out. out; room = λ m room. room }
+apart_created n k x locks ne = record { thread = get-set_other n k x locks.threads ne; out = λ out. out; room = λ m room. room }
 
 -- ---- who waits on condition variables
 

@@ -5,13 +5,13 @@ use Rattle.std.proofs.Math.ListN.{set}
 use Rattle.std.proofs.lemmas.List.{set-set}
 use Rattle.ptk_words.specs.Pools.{pool_get, pool_set, least_free}
 use Rattle.ptk_words.specs.declared.threads.Thread.{Thread}
-use Rattle.ptk_words.proofs.Pools.{least_free_none}
+use Rattle.ptk_words.proofs.Pools.{get-set_other, least_free_none}
 use Rattle.ptk_words_parted.specs.Parts.{part_of}
 use Rattle.ptk_words_parted.proofs.Cuts.{set_part-same}
 use Rattle.ptk_words_model.specs.State.{Locks, Mutex}
 use Rattle.ptk_words_model.specs.Priority.{awaited, effective_priorities, thread_at}
 use Rattle.ptk_threads.specs.Table.{ThreadTable, with_new, with_new_at}
-use Rattle.ptk_threads.proofs.Pools.{part_of-set, pool_get-set_other}
+use Rattle.ptk_threads.proofs.Pools.{part_of-set}
 use Rattle.ptk_syncs.specs.Rosters.{Rostered}
 use Rattle.ptk_mutex.specs.Moves.{after_creation}
 use Rattle.ptk_mutex.specs.Rosters.{with_priorities}
@@ -52,7 +52,7 @@ locked_at (Some n) thread locks e locked = record {
   waiters = λ m k h.
       let was : IsWaiter locks m k = locked.waiters m k h in
       let other : k ≢ n = other_number n k locks.threads (least_free_none locks.threads n e) (waiter_used m k locks was) in
-      record { waits = ap awaited (pool_get-set_other locks.threads n k (Some thread) other) ∙ was.waits; out = was.out; inside = h };
+      record { waits = ap awaited (get-set_other n k (Some thread) locks.threads other) ∙ was.waits; out = was.out; inside = h };
   counts = locked.counts;
 }
 

@@ -3,13 +3,13 @@ use Rattle.std.proofs.Common.{◌≡◌, ℕ, ◌-◌, ◌<◌, ◌≤◌, List,
 use Rattle.std.specs.Prelude.{IsSome, Option, Some, None, option_map, option_and_then, option_to_list}
 use Rattle.std.proofs.lemmas.List.{length-set, set-set, set-get_or}
 use Rattle.ptk_words.specs.Pools.{pool_get, pool_set, first_of_greatest}
-use Rattle.ptk_words.proofs.Pools.{changed_own}
+use Rattle.ptk_words.proofs.Pools.{changed_own, changed_twice}
 use Rattle.ptk_words_model.specs.State.{Mutex, Locks}
 use Rattle.ptk_words_model.specs.Priority.{effective_priority}
 use Rattle.ptk_words_model.specs.Mutex.{waiters_of, soundness_of, free_move, move_reply, kept_reply, handed, heir, owns, after_mutex_end}
 use Rattle.ptk_words_parted.specs.Parts.{part_of}
 use Rattle.ptk_threads.specs.Table.{ThreadTable, stored_of}
-use Rattle.ptk_threads.proofs.Pools.{pool_changed-changed, part_of-set}
+use Rattle.ptk_threads.proofs.Pools.{part_of-set}
 use Rattle.ptk_mutex_priorities.specs.declared.slot.Change.TheVariants.{Mark}
 use Rattle.ptk_mutex_priorities.specs.Changes.{mutex_changed}
 use Rattle.ptk_words.specs.declared.threads.Thread.{Thread}
@@ -79,4 +79,4 @@ stays p table lines mutexes ready = rw (← ready.stored, set_part-same, set_par
 
 pub ruleset ends = (end-other, stays, set_part-same)
 
-pub ruleset wakes = (handed-is, changed_own, pool_changed-changed, part_of-set, set-set, set-get_or, length-set)
+pub ruleset wakes = (handed-is, changed_own, changed_twice, part_of-set, set-set, set-get_or, length-set)

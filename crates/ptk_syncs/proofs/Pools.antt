@@ -6,13 +6,13 @@ use Rattle.std.proofs.lemmas.Bool.{cases_eq}
 use Rattle.std.proofs.lemmas.List.{length-set, get_or_past, get_or-set_same, set_past}
 use Rattle.ptk_words.specs.Pools.{pool_get, pool_set, pool_changed, least_free, is_in}
 use Rattle.ptk_words.specs.declared.threads.Thread.{Thread}
-use Rattle.ptk_words.proofs.Pools.{length-pool_set, pool_set_all}
+use Rattle.ptk_words.proofs.Pools.{get-set_other, length-pool_set, pool_set_all}
 use Rattle.ptk_words_parted.specs.Parts.{part_of}
 use Rattle.ptk_words_model.specs.State.{Mutex, Condition}
 use Rattle.ptk_words_model.specs.Mutex.{waiters_of}
 use Rattle.ptk_words_model.specs.Condition.{waiters_on}
 use Rattle.ptk_words_sync_invariant.specs.Conditions.{IsNoWaiter}
-use Rattle.ptk_threads.proofs.Pools.{part_of-set_other, pool_get-set_other}
+use Rattle.ptk_threads.proofs.Pools.{part_of-set_other}
 use Rattle.ptk_threads.specs.Table.{ThreadTable, with_changed, with_new, with_new_at, with_free, with_left, with_stored, thread_in, stored_of}
 use Rattle.ptk_threads.specs.Queues.{IsUnqueued}
 use Rattle.ptk_threads_slots.proofs.Along.{le_or_gt}
@@ -173,7 +173,7 @@ entries_all P mutexes p m x new old q n = elim (cases_eq q p) as (λ _. P q n (p
     | inl past ↦ rw (set_past mutexes p (pool_set (part_of mutexes p) m x) past) (old q n)
     | inr lt ↦ subst (λ z. P z n (pool_get (part_of (set mutexes p (pool_set (part_of mutexes p) m x)) z) n)) (sym e) (rw (get_or-set_same mutexes p (pool_set (part_of mutexes p) m x) [] lt) (elim (cases_eq n m) as (λ _. P p n (pool_get (pool_set (part_of mutexes p) m x) n)) [
       | inl same ↦ subst (λ z. P p z (pool_get (pool_set (part_of mutexes p) m x) z)) (sym same) (pool_set_all (P p m) (part_of mutexes p) m m x new (old p m))
-      | inr apart ↦ rw (pool_get-set_other (part_of mutexes p) m n x apart) (old p n)
+      | inr apart ↦ rw (get-set_other m n x (part_of mutexes p) apart) (old p n)
     ]))
   ]
   | inr ne ↦ rw (part_of-set_other mutexes p q (pool_set (part_of mutexes p) m x) ne) (old q n)

@@ -12,10 +12,10 @@ use Rattle.ptk_words.specs.Pools.{pool_get, pool_set, pool_changed, least_free, 
 use Rattle.ptk_words.specs.declared.threads.Thread.{Thread}
 use Rattle.ptk_words.proofs.Options.{mapped_some}
 use Rattle.ptk_words.proofs.Lists.{in_here}
-use Rattle.ptk_words.proofs.Pools.{changed_own, changed_other, least_free_none, pool_set_all}
+use Rattle.ptk_words.proofs.Pools.{changed_own, changed_other, get-set_other, least_free_none, pool_set_all}
 use Rattle.ptk_words_parted.specs.Parts.{part_of, filled}
 use Rattle.ptk_threads.specs.Table.{ThreadTable, AreLevelsOf, free_table, thread_in, stored_of, with_changed, with_slot, with_new, with_new_at, with_left, with_rest, with_free, with_stored}
-use Rattle.ptk_threads.proofs.Pools.{pool_get-set_other, part_of-set, part_of-set_other}
+use Rattle.ptk_threads.proofs.Pools.{part_of-set, part_of-set_other}
 use Rattle.ptk_threads_slots.proofs.Along.{le_or_gt, not_true, in_front, in_later}
 use Rattle.ptk_ready.specs.declared.entries.LinkedEntries.{LinkedEntries}
 use Rattle.ptk_ready.specs.Lines.{without_one}
@@ -151,7 +151,7 @@ slot_levels threads stored k level slot le own levels = record {
   greatest = λ j. stored_all (λ z. z ≤ 32) stored k j level le (levels.greatest j);
   least = λ j used. elim (cases_eq j k) as (λ _. 0 < stored_of (pool_set stored k level) j) [
     | inl e ↦ subst (λ z. 0 < stored_of (pool_set stored k level) z) (sym e) (own (subst (λ z. IsSome (pool_get (pool_set threads k slot) z)) e used))
-    | inr ne ↦ rw (stored_other stored k level j ne) (levels.least j (subst IsSome (pool_get-set_other threads k j slot ne) used))
+    | inr ne ↦ rw (stored_other stored k level j ne) (levels.least j (subst IsSome (get-set_other k j slot threads ne) used))
   ];
 }
 
@@ -167,7 +167,7 @@ slot_roster limit line p k level slot a lt le own out roster =
       listed = λ q j inside. elim (cases_eq q p) as (λ _. IsSome (thread_in (with_slot p k slot level a) q j)) [
         | inl e ↦ subst (λ z. IsSome (thread_in (with_slot p k slot level a) z j)) (sym e)
             (let here : is_in j (part_of (lines_by line a.queues) p) ≡ true = subst (λ z. is_in j (part_of (lines_by line a.queues) z) ≡ true) e inside in
-            rw (threads, pool_get-set_other (part_of a.threads p) k j slot (member_apart k j (part_of (lines_by line a.queues) p) out here)) (roster.listed p j here))
+            rw (threads, get-set_other k j slot (part_of a.threads p) (member_apart k j (part_of (lines_by line a.queues) p) out here)) (roster.listed p j here))
         | inr ne ↦ rw (part_of-set_other a.threads p q (pool_set (part_of a.threads p) k slot) ne) (roster.listed q j inside)
       ];
       levels = λ q. elim (cases_eq q p) as (λ _. AreLevelsOf (part_of (with_slot p k slot level a).threads q) (part_of (with_slot p k slot level a).stored q)) [
@@ -229,7 +229,7 @@ rest_alike p k thread a lt own =
             (let there : IsSome (pool_get (pool_set (part_of a.threads p) k (Some thread)) j) = subst (λ z. IsSome (pool_get z j)) here (subst (λ z. IsSome (thread_in (with_rest p k (Some thread) a) z j)) e used) in
             elim (cases_eq j k) as (λ _. IsSome (thread_in a p j)) [
               | inl same ↦ subst (λ z. IsSome (thread_in a p z)) (sym same) own
-              | inr apart ↦ subst IsSome (pool_get-set_other (part_of a.threads p) k j (Some thread) apart) there
+              | inr apart ↦ subst IsSome (get-set_other k j (Some thread) (part_of a.threads p) apart) there
             ])
         | inr ne ↦ subst (λ z. IsSome (pool_get z j)) (part_of-set_other a.threads p q (pool_set (part_of a.threads p) k (Some thread)) ne) used
       ];

@@ -1,6 +1,6 @@
--- One thread changed: what stays, what a thread is that waits for a mutex, and what it is once woken.
+-- One thread changed: what stays, what a thread is that waits, for a mutex above all, and what it is once woken.
 use Rattle.std.proofs.Common.{◌≡◌, ℕ, ◌<◌, true, false, not, ◌&&◌, List, refl, sym, ◌∙◌, ap, inl, inr}
-use Rattle.std.specs.Prelude.{◌≢◌, Option, Some, None, option_map, is_none}
+use Rattle.std.specs.Prelude.{◌≢◌, Option, Some, None, IsSome, option_map, is_none}
 use Rattle.std.proofs.lemmas.Bool.{cases_eq, false≢true, false_from_ne_true, true_from_ne_false}
 use Rattle.ptk_words.specs.Pools.{pool_get, pool_changed}
 use Rattle.ptk_words.specs.Threads.{is_ended, mutex_of_wait}
@@ -29,6 +29,13 @@ changed_same word t f threads here u = elim (cases_eq u t) [
 pub used_changed : (n t : ℕ) (f : Thread → Thread) (threads : List (Option Thread)) → used_of (option_map f (pool_get threads t)) < n → ((u : ℕ) → used_of (pool_get threads u) < n)
     → (u : ℕ) → used_of (pool_get (pool_changed t f threads) u) < n
 used_changed n t f threads own each = each_changed (λ (u : ℕ) (o : Option Thread). used_of o < n) t f threads own (λ u ne. each u)
+
+-- ---- a thread that waits
+
+-- it is in use
+pub waits_used : (wait : Wait) (o : Option Thread) → wait_of o ≡ Some wait → IsSome o
+waits_used wait None e = absurd (let no : ⊥ = cc in no)
+waits_used wait (Some thread) e = refl
 
 -- ---- a thread that waits for a mutex
 
