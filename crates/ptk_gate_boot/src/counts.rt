@@ -5,13 +5,6 @@ ghost use Rattle.std.specs.Prelude.{◌≡◌, map, IfOk};
 use ptk_words::Limits;
 use std::alloc::{AllocError, Global};
 
-/// The greatest number of threads of each section.
-pub(crate) fn thread_counts_of(alloc: Global, limits: &[Limits]) -> Result<Vec<u32>, AllocError>
-    ensures { IfOk result (λ counts. counts.items ≡ map (λ l. l.threads) limits.now) }
-{
-    limits.iter().map(|l| l.threads).collect(alloc)
-}
-
 /// The greatest number of mutexes of each section.
 pub(crate) fn mutex_counts_of(alloc: Global, limits: &[Limits]) -> Result<Vec<u32>, AllocError>
     ensures { IfOk result (λ counts. counts.items ≡ map (λ l. l.mutexes) limits.now) }

@@ -3,7 +3,8 @@
 ghost use Rattle.std.specs.Prelude.{◌≡◌, ◌≤◌, [], length, map, replicate, IfOk, All, None};
 ghost use Rattle.ptk_gate_boot.specs.Sections.{per_section};
 
-use crate::counts::{condition_counts_of, mutex_counts_of, thread_counts_of};
+use crate::counts::{condition_counts_of, mutex_counts_of};
+use ptk_keys::thread_counts_of;
 use ptk_syncs::Roster;
 use ptk_words::{Limits, ThreadNo};
 use std::alloc::{AllocError, Global};

@@ -21,4 +21,5 @@ mod table;
 
 pub use destructors::DestructorCall;
 pub use numbers::KeyNo;
+pub use ptk_words_model::thread_counts_of;
 pub use table::KeyTable;

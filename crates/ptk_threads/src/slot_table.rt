@@ -18,7 +18,7 @@ use ptk_threads_slots::{
     take_from,
 };
 use ptk_words::{PartId, Thread, ThreadNo};
-use ptk_words_parted::Parted;
+use ptk_words_parted::{Parted, repeated};
 use std::alloc::{AllocError, Global};
 use std::marker::Model;
 
@@ -253,17 +253,6 @@ fn free_slots(alloc: Global, counts: &[u32]) -> Result<Parted<Slot>, AllocError>
         first += count;
     }
     Ok(slots)
-}
-
-/// An item n times. An error where memory ran out.
-fn repeated<T: Copy>(alloc: Global, item: T, n: usize) -> Result<Vec<T>, AllocError>
-    ensures { IfOk result (λ items. items.items ≡ filled item n) }
-{
-    let mut items = Vec::new(alloc);
-    for i in 0..n {
-        items.push(item)?;
-    }
-    Ok(items)
 }
 
 /// The ends of empty queues, as many for each partition as there are places. An error where memory ran out.

@@ -166,7 +166,7 @@ fn within<T>(items: &[T], extent: Extent) -> &[T]
 }
 
 /// An item n times. An error where memory ran out.
-fn repeated<T: Copy>(alloc: Global, item: T, n: usize) -> Result<Vec<T>, AllocError>
+pub fn repeated<T: Copy>(alloc: Global, item: T, n: usize) -> Result<Vec<T>, AllocError>
     ensures { IfOk result (λ items. items.items ≡ filled item n) }
 {
     let mut items = Vec::new(alloc);
