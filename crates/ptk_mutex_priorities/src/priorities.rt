@@ -5,6 +5,7 @@ ghost use Rattle.std.specs.Option.{option_flatten};
 ghost use Rattle.ptk_words.specs.Pools.{pool_get, numbers_of};
 ghost use Rattle.ptk_words.specs.declared.threads.Thread.{Thread};
 ghost use Rattle.ptk_words_model.specs.Priority.{awaited, assigned_of, next_in_chain, inheritor_of, effective_priorities};
+ghost use Rattle.ptk_words.specs.Threads.{mutex_of_wait};
 ghost use Rattle.ptk_words_parted.specs.Parts.{part_of};
 ghost use Rattle.ptk_threads_slots.specs.Links.{threads_of};
 ghost use Rattle.ptk_threads.specs.Table.{thread_in, stored_of, AreLevelsOf};
@@ -13,7 +14,7 @@ ghost use Rattle.ptk_mutex_priorities.specs.Tables.{effective_at};
 
 use crate::slot::{MutexSlot, slot_in};
 use ptk_threads::{Slot, Threads};
-use ptk_words::{MutexNo, PartId, Phase, ThreadNo};
+use ptk_words::{MutexNo, PartId, Phase, ThreadNo, Wait};
 
 /// The stored effective priority of a thread; None where the number names no thread or an ended one
 /// (pthread_mutexattr_getprotocol; own choice).
@@ -144,7 +145,17 @@ pub fn awaited(threads: &[Slot], t: ThreadNo) -> Option<MutexNo>
 fn awaited_in(slot: &Slot) -> Option<MutexNo>
     ensures { result ≡ awaited slot.now.thread }
 {
-    slot.wait()?.mutex()
+    mutex_of_wait(slot.wait())
+}
+
+/// The mutex that a wait is for.
+fn mutex_of_wait(wait: Option<Wait>) -> Option<MutexNo>
+    ensures { result ≡ mutex_of_wait wait }
+{
+    match wait {
+        Some(wait) => wait.mutex(),
+        None => None,
+    }
 }
 
 /// The thread that inherits from the waiters of a mutex.
