@@ -8,7 +8,7 @@ use Rattle.ptk_words.specs.declared.faults.ImageFault.TheVariants as image
 use Rattle.ptk_words.specs.Image.{ImageParts, image_of}
 use Rattle.ptk_image.specs.NamedFiles.{NamedFile, content_of}
 use Rattle.ptk_config.specs.Sections.{Section}
-use Rattle.ptk_config_explain.specs.Words.{newline}
+use Rattle.ptk_words.specs.Names.{newline}
 use Rattle.ptk_config_explain.specs.declared.images.Outcome.{Outcome}
 use Rattle.ptk_config_explain.specs.declared.images.Outcome.TheVariants.{Unnamed, Missing, Refused, Unfit, Accepted}
 

@@ -18,7 +18,8 @@ use Rattle.ptk_config_places.specs.declared.place.Place.{Place}
 use Rattle.ptk_config_places.specs.declared.place.Place.TheVariants as place
 use Rattle.ptk_config_places.specs.declared.place.Refusal.{Refusal}
 use Rattle.ptk_config_places.specs.Lookup.{◌>>=◌, table_of, number_at, text_at, count_at, value_there, section_of}
-use Rattle.ptk_config_explain.specs.Words.{newline, outside, no_multiple, large_stacks, miscounted, other_kind, unknown_key, no_section, same_name, short, past_frame, overlaps, refused, place_words}
+use Rattle.ptk_words.specs.Names.{newline}
+use Rattle.ptk_config_explain.specs.Words.{outside, no_multiple, large_stacks, miscounted, other_kind, unknown_key, no_section, same_name, short, past_frame, overlaps, refused, place_words}
 
 -- ---- kinds
 

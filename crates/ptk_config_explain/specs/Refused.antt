@@ -5,7 +5,7 @@ use Rattle.std.specs.List.{concat}
 use Rattle.toml.specs.Data.{Members}
 use Rattle.toml.specs.Parse.{parse_document}
 use Rattle.ptk_config_places.specs.declared.place.Refusal.{Refusal}
-use Rattle.ptk_config_explain.specs.Words.{newline}
+use Rattle.ptk_words.specs.Names.{newline}
 use Rattle.ptk_config_explain.specs.Reasons.{refusal_line}
 
 -- the line of the byte at this place, counted from 1: one more than the line feeds before it (own)

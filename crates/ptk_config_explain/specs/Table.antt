@@ -9,7 +9,7 @@ use Rattle.ptk_config.specs.Sections.{Section}
 use Rattle.ptk_config.specs.Configuration.{Configuration}
 use Rattle.ptk_config_explain.specs.declared.images.Outcome.{Outcome}
 use Rattle.ptk_config_explain.specs.Images.{image_line, outcome_in}
-use Rattle.ptk_config_explain.specs.Words.{newline}
+use Rattle.ptk_words.specs.Names.{newline}
 
 -- the numbers of a partition (own)
 abbrev pub limits_line : Limits → List ℕ

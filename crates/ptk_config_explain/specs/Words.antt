@@ -12,10 +12,6 @@ use Rattle.ptk_config_explain.specs.declared.words.Reason.{Reason}
 use Rattle.ptk_config_explain.specs.declared.words.Reason.TheVariants as reason
 use Rattle.ptk_config_places.specs.Placed.{key_name}
 
--- the byte that ends a line (own)
-abbrev pub newline : List ℕ
-newline = 10 ∷ []
-
 -- ---- places
 
 -- a section by its number, and its name where it is shown (own)

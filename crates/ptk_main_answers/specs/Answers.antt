@@ -1,6 +1,7 @@
 -- What a request over a configuration and files has written.
 use Rattle.std.specs.Prelude.{ℕ, List, [], Option, Some, None, ◌++◌, codes}
-use Rattle.ptk_words_model.specs.Text.{newline, trace_text}
+use Rattle.ptk_words.specs.Names.{newline}
+use Rattle.ptk_words_model.specs.Text.{trace_text}
 use Rattle.ptk_main_runs.specs.World.{World, state_of}
 
 -- the trace of a partition, if there is one (own)

@@ -6,7 +6,8 @@ use Rattle.std.proofs.KnownBytes.{Appends-trans}
 use Rattle.ptk_words.specs.declared.faults.Status.{Status}
 use Rattle.ptk_words.specs.declared.faults.Status.TheVariants.{Active, Exited, Stopped, Refused}
 use Rattle.ptk_words_model.specs.State.{Part, State}
-use Rattle.ptk_words_model.specs.Text.{newline, output_text, report_text, status_text, has_runnable}
+use Rattle.ptk_words.specs.Names.{newline}
+use Rattle.ptk_words_model.specs.Text.{output_text, report_text, status_text, has_runnable}
 use Rattle.ptk_system.specs.Told.{activity_of, status_in, told_status}
 use Rattle.ptk_system.specs.Shown.{shown_status, part_lines, part_report, reports_to}
 use Rattle.ptk_system.specs.World.{World}

@@ -36,7 +36,11 @@ activity_in t s = activity_of_number (is_active s.status) (is_running t s.runnin
 -- the mutex that a blocked thread waits for; None of any other, and of a condition wait (pthread_mutex_lock, pthread_cond_wait)
 abbrev pub mutex_of_activity : Activity → Option MutexNumber
 mutex_of_activity (Blocked wait) = mutex_of_wait (Some wait)
-mutex_of_activity activity = None
+mutex_of_activity Free = None
+mutex_of_activity Running = None
+mutex_of_activity Ready = None
+mutex_of_activity Ended = None
+mutex_of_activity Halted = None
 
 -- the owner, where it is a thread (pthread_mutex_lock)
 abbrev pub thread_of_owner : Owner → Option ThreadNumber

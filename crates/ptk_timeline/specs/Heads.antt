@@ -3,7 +3,7 @@ use Rattle.std.specs.Prelude.{ℕ, List, [], ◌∷◌, codes, decimal}
 use Rattle.std.specs.List.{concat}
 use Rattle.ptk_timeline_segments.specs.PartStatus.{PartStatus}
 use Rattle.ptk_timeline_segments.specs.Shown.{shown_status}
-use Rattle.ptk_timeline_segments.specs.Text.{newline}
+use Rattle.ptk_words.specs.Names.{newline}
 
 -- at a place the name of a partition, with its name and what it is as the text that a browser shows for it
 abbrev pub lane_head : ℕ → ℕ → List ℕ → PartStatus → List ℕ

@@ -11,7 +11,6 @@ pub mod Marked
 pub mod OwnWindows
 pub mod Lanes
 pub mod Recordings
-pub use Rattle.ptk_words_model.specs.Text
 pub use Rattle.ptk_system.specs.Shown
 pub use Rattle.ptk_system.specs.World
 pub use Rattle.ptk_system.specs.declared.status.PartStatus

@@ -1,5 +1,5 @@
 -- What a number stands for, by name.
-use Rattle.std.specs.Prelude.{ℕ}
+use Rattle.std.specs.Prelude.{ℕ, List, [], ◌∷◌}
 
 -- a thread of a partition, from 1 (XSH 2.9.2)
 abbrev pub ThreadNumber : Type 0
@@ -40,3 +40,7 @@ Word = ℕ
 -- a number below 2^8 (RISC-V 1.4)
 abbrev pub Byte : Type 0
 Byte = ℕ
+
+-- the byte that ends a line (own)
+abbrev pub newline : List Byte
+newline = 10 ∷ []

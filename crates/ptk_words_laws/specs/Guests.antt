@@ -1,14 +1,13 @@
 -- Small guests, sections and windows, and what is read of a run.
 use Rattle.std.specs.Prelude.{ℕ, ◌*◌, List, [], ◌∷◌, ◌++◌, length, map, flat_map, codes, Option, Some, option_map}
 use Rattle.std.specs.Int.{w32, to_le_bytes}
-use Rattle.ptk_words.specs.Names.{ThreadNumber, Tick, Ticks, Word}
+use Rattle.ptk_words.specs.Names.{ThreadNumber, Tick, Ticks, Word, newline}
 use Rattle.ptk_words.specs.Processor.{register}
 use Rattle.ptk_words.specs.declared.sections.Limits.{Limits}
 use Rattle.ptk_words_windows.specs.declared.window.Window.{Window}
 use Rattle.ptk_words_windows.specs.Windows.{OwnTicks, Stage, own_ticks}
 use Rattle.ptk_words_model.specs.State.{Part, State}
 use Rattle.ptk_words_model.specs.Priority.{thread_at}
-use Rattle.ptk_words_model.specs.Text.{newline}
 use Rattle.ptk_words_model.specs.Run.{alone}
 
 -- words as bytes, least byte first (RISC-V 2.6)

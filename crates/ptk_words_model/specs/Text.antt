@@ -1,7 +1,7 @@
 -- The texts of a partition's report and of its trace, as bytes (own).
 use Rattle.std.specs.Prelude.{ℕ, Bool, zero, suc, ◌+◌, ◌/◌, ◌%◌, ◌^◌, List, [], ◌∷◌, ◌++◌, length, nat_lt, if◌then◌else◌, decimal, codes, flat_map, is_some, ◌||◌}
 use Rattle.std.specs.List.{concat}
-use Rattle.ptk_words.specs.Names.{Byte, Pointer, Ticks, Word}
+use Rattle.ptk_words.specs.Names.{Byte, Pointer, Ticks, Word, newline}
 use Rattle.ptk_words.specs.Faults.{image_fault_number}
 use Rattle.ptk_words.specs.declared.faults.FaultKind.{FaultKind}
 use Rattle.ptk_words.specs.declared.faults.FaultKind.TheVariants.{Illegal, Fetch, Load, Store, Misaligned}
@@ -12,10 +12,6 @@ use Rattle.ptk_words.specs.declared.faults.Status.{Status}
 use Rattle.ptk_words.specs.declared.faults.Status.TheVariants.{Active, Exited, Stopped, Refused}
 use Rattle.ptk_words.specs.declared.sections.Entry.{Entry}
 use Rattle.ptk_words_model.specs.State.{Part, State}
-
--- the byte that ends a line (own)
-abbrev pub newline : List Byte
-newline = 10 ∷ []
 
 -- a digit to base 16, in lower case (own)
 abbrev pub hex_digit : ℕ → Byte
