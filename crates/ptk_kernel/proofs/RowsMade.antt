@@ -11,7 +11,7 @@ use Rattle.ptk_gate.proofs.StepsInARow.{gone_nothing, gone_still}
 use Rattle.ptk_kernel.specs.Rows.{IsStillTo}
 
 -- no step changes nothing
-pub rows_none : (p t tick n reached : ℕ) (old new : Kept) (before after : KeptSteps) → new ≡ put_part p (part_at p new) old → HasGone (limits_at p old) t tick n reached (part_at p old) (part_at p new) before after → length before.entries ≤ before.kept → n ≡ 0
+pub rows_none : (p t tick n reached : ℕ) (old new : Kept) (before after : KeptSteps) → new ≡ put_part p (part_at p new) old → HasGone (limits_at p old) t tick n reached (part_at p old) (part_at p new) before after → length before.entries ≤ before.capacity → n ≡ 0
     → (reached ≡ tick) × (new ≡ old) × (after ≡ before)
 rows_none p t tick n reached old new before after moved gone within none =
     let same = gone_nothing (limits_at p old) t tick n reached (part_at p old) (part_at p new) before after gone within none in

@@ -76,7 +76,7 @@ pub fn run_quiet(
     ensures call { result.is_call ≡ true → IsCallNext quiet.thread (part_at p tables.new) }
     ensures still { (stop : ℕ) → quiet.stop ≤ stop → IsStillTo p tick stop quiet.thread tables.old → IsStillTo p result.tick stop quiet.thread tables.new }
 {
-    let _kept = trace.kept();
+    let _capacity = trace.capacity();
     tables.run_quiet(p, quiet, tick, until, trace)
 }
 

@@ -25,17 +25,17 @@ use Rattle.ptk_system_machine.proofs.Ticks.{gone_none, gone_up}
 
 -- the trace of an account
 abbrev pub trace_in : KeptAccount → KeptSteps
-trace_in a = record { kept = a.kept; entries = a.account.trace }
+trace_in a = record { capacity = a.capacity; entries = a.account.trace }
 
 -- the account with this next decision, so many more steps and this trace
 abbrev pub with_row_of : Option ℕ → ℕ → KeptSteps → KeptAccount → KeptAccount
 with_row_of next n trace a =
-    record { account = record { next = next; steps = a.account.steps + n; lost = a.account.lost; trace = trace.entries }; kept = trace.kept }
+    record { account = record { next = next; steps = a.account.steps + n; lost = a.account.lost; trace = trace.entries }; capacity = trace.capacity }
 
 same_account : (next : Option ℕ) (n : ℕ) (trace : KeptSteps) (a : KeptAccount) → next ≡ a.account.next → n ≡ 0 → trace ≡ trace_in a → with_row_of next n trace a ≡ a
 same_account next n trace a e none same =
     let steps : a.account.steps + n ≡ a.account.steps = omega arith in
-    let path : ◌≡◌ {A = KeptAccount} (with_row_of next n trace a) a = λ i. record { account = record { next = e i; steps = steps i; lost = a.account.lost; trace = (same i).entries }; kept = (same i).kept } in
+    let path : ◌≡◌ {A = KeptAccount} (with_row_of next n trace a) a = λ i. record { account = record { next = e i; steps = steps i; lost = a.account.lost; trace = (same i).entries }; capacity = (same i).capacity } in
     path
 
 next_active : (ticks : OwnTicks) (status : Status) (tick : ℕ) → is_active status ≡ true → next_from ticks status tick ≡ ticks.next_of tick
@@ -43,11 +43,11 @@ next_active ticks status tick e = rw e refl
 
 -- the account of steps with these entries
 counted_account : (ticks : OwnTicks) (limits : Limits) (reached n : ℕ) (entries : List Entry) (status : Status) (next : Option ℕ) (trace : KeptSteps) (a : KeptAccount)
-    → next ≡ next_from ticks status reached → a.kept ≡ limits.trace → trace ≡ with_newest entries (trace_in a)
+    → next ≡ next_from ticks status reached → a.capacity ≡ limits.trace → trace ≡ with_newest entries (trace_in a)
     → with_row_of next n trace a ≡ record a { account = record a.account { next = next_from ticks status reached; steps = a.account.steps + n; trace = last_of limits.trace (a.account.trace ++ entries) } }
 counted_account ticks limits reached n entries status next trace a e kept traced =
     let path : ◌≡◌ {A = KeptAccount} (with_row_of next n trace a) (with_row_of (next_from ticks status reached) n (with_newest entries (trace_in a)) a) = λ i. with_row_of (e i) n (traced i) a in
-    path ∙ ap (λ (k : ℕ). with_row_of (next_from ticks status reached) n (record { kept = a.kept; entries = last_of k (a.account.trace ++ entries) }) a) kept
+    path ∙ ap (λ (k : ℕ). with_row_of (next_from ticks status reached) n (record { capacity = a.capacity; entries = last_of k (a.account.trace ++ entries) }) a) kept
 
 -- a row of no step
 row_of_none : (ticks : OwnTicks) (p tick : ℕ) (next : Option ℕ) (old new : Kept) (accounts : List KeptAccount) (trace : KeptSteps)
@@ -154,4 +154,4 @@ pub rows_whole : (p i tick n reached t : ℕ) (next : Option ℕ) (old new : Kep
 rows_whole p i tick n reached t next old new accounts trace seen account is place read moved gone e =
     subst (λ (j : ℕ). IsWhole new (set accounts j account)) (sym place)
     (still_whole p (part_at p new) old new accounts account is moved
-    (ap (λ (a : KeptAccount). a.kept) e ∙ (ap (λ (s : KeptSteps). s.kept) gone.traced ∙ ap (λ (a : KeptAccount). a.kept) read)))
+    (ap (λ (a : KeptAccount). a.capacity) e ∙ (ap (λ (s : KeptSteps). s.capacity) gone.traced ∙ ap (λ (a : KeptAccount). a.capacity) read)))

@@ -80,18 +80,18 @@ pub decided_whole : (ticks : OwnTicks) (tick room from p : ℕ) (kept new : Kept
     → new ≡ put_part p (after_decision (limits_at p kept) tick room (part_at p kept)) kept
     → next ≡ next_from ticks (part_at p new).status from
     → last ≡ (part_at p new).last
-    → account ≡ record (get_or accounts p no_account) { account = spent_account next (get_or accounts p no_account).kept room spent last (get_or accounts p no_account).account }
+    → account ≡ record (get_or accounts p no_account) { account = spent_account next (get_or accounts p no_account).capacity room spent last (get_or accounts p no_account).account }
     → record { kept = new; accounts = set accounts p account }
     ≡ put_state p (waiting_from ticks from (decided ticks (limits_at p kept) tick room (state_at p (record { kept = kept; accounts = accounts })))) (record { kept = kept; accounts = accounts })
 decided_whole ticks tick room from p kept new accounts account spent next last is lt told moved next_is last_is counted =
     let now : part_at p new ≡ after_decision (limits_at p kept) tick room (part_at p kept) = ap (part_at p) moved ∙ part_at-put (length accounts) p _ kept is.parts lt in
-    let by_law : spent_account (next_from ticks (part_at p new).status from) (get_or accounts p no_account).kept room spent (part_at p new).last (get_or accounts p no_account).account
+    let by_law : spent_account (next_from ticks (part_at p new).status from) (get_or accounts p no_account).capacity room spent (part_at p new).last (get_or accounts p no_account).account
     ≡ (waiting_from ticks from (decided ticks (limits_at p kept) tick room (state_at p (record { kept = kept; accounts = accounts })))).account
-    = spent_is ticks (limits_at p kept) tick room from (part_at p new) (after_decision (limits_at p kept) tick room (part_at p kept)) spent (spent_by_decision (limits_at p kept) tick room (part_at p kept)) (get_or accounts p no_account).kept (get_or accounts p no_account).account now told (is.traces p lt) in
+    = spent_is ticks (limits_at p kept) tick room from (part_at p new) (after_decision (limits_at p kept) tick room (part_at p kept)) spent (spent_by_decision (limits_at p kept) tick room (part_at p kept)) (get_or accounts p no_account).capacity (get_or accounts p no_account).account now told (is.traces p lt) in
     let same : account ≡ record (get_or accounts p no_account) { account = (waiting_from ticks from (decided ticks (limits_at p kept) tick room (state_at p (record { kept = kept; accounts = accounts })))).account }
     = counted ∙ ap (λ (a : Account). record (get_or accounts p no_account) { account = a })
-    (ap (λ (n : Option ℕ). spent_account n (get_or accounts p no_account).kept room spent last (get_or accounts p no_account).account) next_is
-    ∙ (ap (λ (l : Option Entry). spent_account (next_from ticks (part_at p new).status from) (get_or accounts p no_account).kept room spent l (get_or accounts p no_account).account) last_is ∙ by_law)) in
+    (ap (λ (n : Option ℕ). spent_account n (get_or accounts p no_account).capacity room spent last (get_or accounts p no_account).account) next_is
+    ∙ (ap (λ (l : Option Entry). spent_account (next_from ticks (part_at p new).status from) (get_or accounts p no_account).capacity room spent l (get_or accounts p no_account).account) last_is ∙ by_law)) in
     ap (λ (k : Kept). record { kept = k; accounts = set accounts p account }) moved
     ∙ ap (λ (a : KeptAccount). record { kept = put_part p (after_decision (limits_at p kept) tick room (part_at p kept)) kept; accounts = set accounts p a }) same
 
@@ -103,21 +103,21 @@ account_read p i accounts x read same lt = get_or_read accounts p x lt (subst (�
 pub account_put : (p i : ℕ) (accounts : List KeptAccount) (x : KeptAccount) → i ≡ p → p < length accounts → get_or (set accounts i x) p no_account ≡ x
 account_put p i accounts x same lt = ap (λ (j : ℕ). get_or (set accounts j x) p no_account) same ∙ get_or-set_same accounts p x no_account lt
 
-trace_still : (p q : ℕ) (accounts : List KeptAccount) (account : KeptAccount) (traces : ℕ) → account.kept ≡ (get_or accounts p no_account).kept → (get_or accounts q no_account).kept ≡ traces → q < length accounts
-    → (get_or (set accounts p account) q no_account).kept ≡ traces
+trace_still : (p q : ℕ) (accounts : List KeptAccount) (account : KeptAccount) (traces : ℕ) → account.capacity ≡ (get_or accounts p no_account).capacity → (get_or accounts q no_account).capacity ≡ traces → q < length accounts
+    → (get_or (set accounts p account) q no_account).capacity ≡ traces
 trace_still p q accounts account traces same at lt = by (p == q) refl
   where
-    by : (b : Bool) → (p == q) ≡ b → (get_or (set accounts p account) q no_account).kept ≡ traces
+    by : (b : Bool) → (p == q) ≡ b → (get_or (set accounts p account) q no_account).capacity ≡ traces
     by true e =
         let is : p ≡ q = eqb-true p q e in
-        let here : (get_or (set accounts p account) q no_account).kept ≡ account.kept = ap (λ (a : KeptAccount). a.kept) (subst (λ (j : ℕ). get_or (set accounts j account) q no_account ≡ account) (sym is) (get_or-set_same accounts q account no_account lt)) in
-        here ∙ (same ∙ (ap (λ (j : ℕ). (get_or accounts j no_account).kept) is ∙ at))
+        let here : (get_or (set accounts p account) q no_account).capacity ≡ account.capacity = ap (λ (a : KeptAccount). a.capacity) (subst (λ (j : ℕ). get_or (set accounts j account) q no_account ≡ account) (sym is) (get_or-set_same accounts q account no_account lt)) in
+        here ∙ (same ∙ (ap (λ (j : ℕ). (get_or accounts j no_account).capacity) is ∙ at))
     by false e =
         let differ : q ≢ p = λ one. false≢true (sym e ∙ eq-eqb p q (sym one)) in
-        ap (λ (a : KeptAccount). a.kept) (get_or-set_other accounts p q account no_account differ) ∙ at
+        ap (λ (a : KeptAccount). a.capacity) (get_or-set_other accounts p q account no_account differ) ∙ at
 
 -- the invariant after one account and one part changed
-pub still_whole : (p : ℕ) (s : Part) (kept new : Kept) (accounts : List KeptAccount) (account : KeptAccount) → IsWhole kept accounts → new ≡ put_part p s kept → account.kept ≡ (get_or accounts p no_account).kept
+pub still_whole : (p : ℕ) (s : Part) (kept new : Kept) (accounts : List KeptAccount) (account : KeptAccount) → IsWhole kept accounts → new ≡ put_part p s kept → account.capacity ≡ (get_or accounts p no_account).capacity
     → IsWhole new (set accounts p account)
 still_whole p s kept new accounts account is moved same =
     let count : length (set accounts p account) ≡ length accounts = length-set accounts p account in

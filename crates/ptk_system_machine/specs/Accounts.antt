@@ -11,14 +11,14 @@ use Rattle.ptk_system_machine.specs.declared.account.Account.TheInside.{Inside}
 -- an account, and how many steps its trace keeps
 pub record KeptAccount : Type 0 where
   pub account : Account
-  pub kept : ℕ
+  pub capacity : ℕ
 
 -- an account as it is kept, with how many steps its trace keeps
 abbrev pub kept_account_of : Inside → KeptAccount
 kept_account_of a =
     record {
       account = record { next = a.next; steps = a.steps; lost = a.lost; trace = a.trace.entries };
-      kept = a.trace.kept;
+      capacity = a.trace.capacity;
     }
 
 -- the account before the first decision, which is at this tick
@@ -33,10 +33,10 @@ duration_of room (Step cost) = cost
 
 -- the account after a decision with this room that spent this: the next decision, and of a step its entry in the trace
 abbrev pub spent_account : Option ℕ → ℕ → ℕ → Spent → Option Entry → Account → Account
-spent_account next kept room Idle last account = record account { next = next }
-spent_account next kept room Lost last account = record account { next = next; lost = account.lost + room }
-spent_account next kept room (Step cost) last account =
-    record account { next = next; steps = account.steps + 1; trace = last_of kept (account.trace ++ option_to_list last) }
+spent_account next capacity room Idle last account = record account { next = next }
+spent_account next capacity room Lost last account = record account { next = next; lost = account.lost + room }
+spent_account next capacity room (Step cost) last account =
+    record account { next = next; steps = account.steps + 1; trace = last_of capacity (account.trace ++ option_to_list last) }
 
 -- n ticks are behind the state: it has made at most n steps, has lost at most a frame's ticks for each tick, and is not halted where a decision is to come (own)
 pub record IsBehind (n : ℕ) (state : State) : Type 0 where

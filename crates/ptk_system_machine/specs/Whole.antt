@@ -14,7 +14,7 @@ pub record Whole : Type 0 where
 
 -- the account past the last partition
 abbrev pub no_account : KeptAccount
-no_account = record { account = first_account None; kept = 0 }
+no_account = record { account = first_account None; capacity = 0 }
 
 -- the account of a partition
 abbrev pub account_at : ℕ → Whole → KeptAccount
@@ -40,7 +40,7 @@ gone_on ticks p tick n whole = put_state p (after_ticks ticks (limits_at p whole
 pub record IsWhole (kept : Kept) (accounts : List KeptAccount) : Type 0 where
   pub parts : AreParts (length accounts) kept
   pub limits : length kept.limits ≡ length accounts
-  pub traces : (p : ℕ) → p < length accounts → (slice_index_or accounts p no_account).kept ≡ (limits_at p kept).trace
+  pub traces : (p : ℕ) → p < length accounts → (slice_index_or accounts p no_account).capacity ≡ (limits_at p kept).trace
 
 -- the plan's windows are those of this many partitions, in a frame of a configuration's range
 pub record AreWindowsOf (parts : ℕ) (plan : WindowPlan) : Type 0 where
@@ -52,5 +52,5 @@ abbrev pub first_account_of : WindowPlan → Kept → ℕ → KeptAccount
 first_account_of plan kept p =
     record {
       account = first_account (next_from (own_ticks plan p) (part_at p kept).status 0);
-      kept = (limits_at p kept).trace;
+      capacity = (limits_at p kept).trace;
     }

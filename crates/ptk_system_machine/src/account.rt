@@ -44,7 +44,7 @@ impl Account {
         trace: u32,
         near: Near,
     ) -> Result<Account, AllocError>
-        ensures { IfOk result (λ account. account ≡ record { account = first_account next; kept = trace }) }
+        ensures { IfOk result (λ account. account ≡ record { account = first_account next; capacity = trace }) }
     {
         Ok(Account {
             next,
@@ -78,7 +78,7 @@ impl Account {
 
     /// The last steps.
     pub fn trace(&self) -> &Trace
-        ensures { result.now ≡ record { kept = self.now.kept; entries = self.now.account.trace } }
+        ensures { result.now ≡ record { capacity = self.now.capacity; entries = self.now.account.trace } }
     {
         &self.trace
     }
@@ -97,7 +97,7 @@ impl Account {
         requires partition { p < length tables.now.limits }
         requires steps { self.old.account.steps ≤ LAST_TICK }
         requires lost { self.old.account.lost ≤ 2 ^ 60 }
-        ensures { self.new ≡ record self.old { account = spent_account next self.old.kept room spent (part_at p tables.now).last self.old.account } }
+        ensures { self.new ≡ record self.old { account = spent_account next self.old.capacity room spent (part_at p tables.now).last self.old.account } }
     {
         self.next = next;
         match spent {
@@ -115,9 +115,9 @@ impl Account {
     #[inline(always)]
     fn keep_last(&mut self, tables: &Tables, p: PartId)
         requires { p < length tables.now.limits }
-        ensures { self.new ≡ record self.old { account = record self.old.account { trace = last_of self.old.kept (self.old.account.trace ++ option_to_list (part_at p tables.now).last) } } }
+        ensures { self.new ≡ record self.old { account = record self.old.account { trace = last_of self.old.capacity (self.old.account.trace ++ option_to_list (part_at p tables.now).last) } } }
     {
-        if self.trace.kept() == 0 {
+        if self.trace.capacity() == 0 {
             return;
         }
         if let Some(entry) = last_step(tables, p) {

@@ -80,7 +80,7 @@ impl Machine {
     pub fn account(&self, p: PartId) -> &Account
         requires { p < length self.now.accounts }
         ensures value { result.now ≡ account_at p self.now }
-        ensures kept { result.now.kept ≡ (limits_at p self.now.kept).trace }
+        ensures kept { result.now.capacity ≡ (limits_at p self.now.kept).trace }
     {
         &self.accounts[p.index()]
     }

@@ -44,12 +44,12 @@ impl Model for Trace {
 }
 
 impl Trace {
-    /// A trace that keeps the last `kept` steps, and none where that is 0. An error where memory ran out. No other call
+    /// A trace that keeps the last `capacity` steps, and none where that is 0. An error where memory ran out. No other call
     /// takes memory.
-    pub fn new(alloc: Global, kept: u32) -> Result<Trace, AllocError>
-        ensures { IfOk result (λ made. made ≡ record { kept = kept; entries = [] }) }
+    pub fn new(alloc: Global, capacity: u32) -> Result<Trace, AllocError>
+        ensures { IfOk result (λ made. made ≡ record { capacity = capacity; entries = [] }) }
     {
-        let ring = HeapCircularBuffer::with_capacity(alloc, kept as usize)?;
+        let ring = HeapCircularBuffer::with_capacity(alloc, capacity as usize)?;
         let unset = Entry {
             tick: Tick::new(0),
             thread: ThreadNo::new(1),
@@ -65,8 +65,8 @@ impl Trace {
     }
 
     /// How many steps it keeps at most.
-    pub fn kept(&self) -> usize
-        ensures value { result ≡ self.now.kept }
+    pub fn capacity(&self) -> usize
+        ensures value { result ≡ self.now.capacity }
         ensures within { length self.now.entries ≤ result }
     {
         self.ring.capacity()

@@ -12,12 +12,12 @@ next_is-requires c = record { in_use = quiet_used (limits_here c.args.pools.now)
 pub returns-then-ticks-clause-gone : goal.returns-then-ticks-clause-gone
 returns-then-ticks-clause-gone c =
     gone_as (limits_here c.args.pools.now) c.args.quiet.now.thread c.args.now.tick 0 _ c.args.now.tick _ c.args.pools.now.here c.args.pools.now.here c.args.trace.now c.args.trace.now
-    (gone_none (limits_here c.args.pools.now) c.args.quiet.now.thread c.args.now.tick c.args.pools.now.here c.args.trace.now (omega (arith, c.kept-kept.ensures.value, c.kept-kept.ensures.within))) (omega arith) refl
+    (gone_none (limits_here c.args.pools.now) c.args.quiet.now.thread c.args.now.tick c.args.pools.now.here c.args.trace.now (omega (arith, c.capacity-capacity.ensures.value, c.capacity-capacity.ensures.within))) (omega arith) refl
 
 pub returns-in-Call-clause-gone : goal.returns-in-Call-clause-gone
 returns-in-Call-clause-gone c =
     gone_as (limits_here c.args.pools.now) c.args.quiet.now.thread c.args.now.tick 0 _ c.args.now.tick _ c.args.pools.now.here c.args.pools.now.here c.args.trace.now c.args.trace.now
-    (gone_none (limits_here c.args.pools.now) c.args.quiet.now.thread c.args.now.tick c.args.pools.now.here c.args.trace.now (omega (arith, c.kept-kept.ensures.value, c.kept-kept.ensures.within))) (omega arith) refl
+    (gone_none (limits_here c.args.pools.now) c.args.quiet.now.thread c.args.now.tick c.args.pools.now.here c.args.trace.now (omega (arith, c.capacity-capacity.ensures.value, c.capacity-capacity.ensures.within))) (omega arith) refl
 
 pub returns-in-Call-clause-ended : goal.returns-in-Call-clause-ended
 returns-in-Call-clause-ended c = λ before more. record {
@@ -28,7 +28,7 @@ returns-in-Call-clause-ended c = λ before more. record {
 pub returns-in-Other-clause-gone : goal.returns-in-Other-clause-gone
 returns-in-Other-clause-gone c =
     gone_as (limits_here c.args.pools.now) c.args.quiet.now.thread c.args.now.tick 0 _ c.args.now.tick _ c.args.pools.now.here c.args.pools.now.here c.args.trace.now c.args.trace.now
-    (gone_none (limits_here c.args.pools.now) c.args.quiet.now.thread c.args.now.tick c.args.pools.now.here c.args.trace.now (omega (arith, c.kept-kept.ensures.value, c.kept-kept.ensures.within))) (omega arith) refl
+    (gone_none (limits_here c.args.pools.now) c.args.quiet.now.thread c.args.now.tick c.args.pools.now.here c.args.trace.now (omega (arith, c.capacity-capacity.ensures.value, c.capacity-capacity.ensures.within))) (omega arith) refl
 
 pub returns-in-Other-clause-ended : goal.returns-in-Other-clause-ended
 returns-in-Other-clause-ended c = λ before more. record {

@@ -10,7 +10,7 @@ returns-clause-from c =
 
 pub returns-clause-none : goal.returns-clause-none
 returns-clause-none c = λ none.
-    let within : length c.args.trace.now.entries ≤ c.args.trace.now.kept = omega (arith, c.kept-kept.ensures.value, c.kept-kept.ensures.within) in
+    let within : length c.args.trace.now.entries ≤ c.args.trace.now.capacity = omega (arith, c.capacity-capacity.ensures.value, c.capacity-capacity.ensures.within) in
     rows_none c.args.p c.args.quiet.thread c.args.tick c.run_quiet.result.steps c.run_quiet.result.tick c.args.tables.now c.run_quiet.new.self c.args.trace.now c.run_quiet.new.trace c.run_quiet.ensures.moved c.run_quiet.ensures.gone within none
 
 pub returns-clause-still : goal.returns-clause-still

@@ -23,7 +23,7 @@ invariant_of-self c =
     account_read c.args.p c.index.result c.self.inside.accounts.items c.index_mut-account.result.now c.index_mut-account.ensures.value c.index.ensures lt in
     subst (λ (i : ℕ). IsWhole c.self.inside.tables (set c.self.inside.accounts.items i c.count.new.self)) (sym c.index.ensures)
     (still_whole c.args.p _ c.self.inside.tables c.self.inside.tables c.self.inside.accounts.items c.count.new.self c.self.invariant (sym (put_part-same c.args.p c.self.inside.tables))
-    (ap (λ (a : KeptAccount). a.kept) c.count.ensures ∙ ap (λ (a : KeptAccount). a.kept) account))
+    (ap (λ (a : KeptAccount). a.capacity) c.count.ensures ∙ ap (λ (a : KeptAccount). a.capacity) account))
 
 pub returns-clause-on : goal.returns-clause-on
 returns-clause-on c = λ on.
@@ -67,7 +67,7 @@ returns-clause-gone c = λ s same made free.
     let room : c.ticks.result - c.ticks-2.result ≡ c.args.turn.end - c.args.turn.start = cc in
     let counted : c.count.new.self
     ≡ record (get_or c.self.inside.accounts.items c.args.p no_account) { account = spent_account c.next_turn.result.0 (get_or c.self.inside.accounts.items c.args.p no_account).kept (c.args.turn.end - c.args.turn.start) c.args.spent (part_at c.args.p c.self.inside.tables).last (get_or c.self.inside.accounts.items c.args.p no_account).account }
-    = subst (λ (a : KeptAccount). c.count.new.self ≡ record a { account = spent_account c.next_turn.result.0 a.kept (c.args.turn.end - c.args.turn.start) c.args.spent (part_at c.args.p c.self.inside.tables).last a.account }) account
+    = subst (λ (a : KeptAccount). c.count.new.self ≡ record a { account = spent_account c.next_turn.result.0 a.capacity (c.args.turn.end - c.args.turn.start) c.args.spent (part_at c.args.p c.self.inside.tables).last a.account }) account
     (subst (λ (r : ℕ). c.count.new.self ≡ record c.index_mut-account.result.now { account = spent_account c.next_turn.result.0 c.index_mut-account.result.now.kept r c.args.spent (part_at c.args.p c.self.inside.tables).last c.index_mut-account.result.now.account }) room c.count.ensures) in
     let whole : IsWhole (kept_before c.args.p s c.self.inside.tables) c.self.inside.accounts.items = part_whole c.args.p s.part c.self.inside.tables (kept_before c.args.p s c.self.inside.tables) c.self.inside.accounts.items c.self.invariant refl in
     subst (λ (w : Whole). record { kept = c.self.inside.tables; accounts = set c.self.inside.accounts.items c.index.result c.count.new.self }

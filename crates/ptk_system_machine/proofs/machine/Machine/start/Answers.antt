@@ -10,6 +10,6 @@ invariant_of-result c =
       parts = subst (λ (n : ℕ). AreParts n c.args.tables) count c.requires.parts;
       limits = ap length c.requires.limits ∙ count;
       traces =
-          λ p lt. ap (λ (account : KeptAccount). account.kept)
+          λ p lt. ap (λ (account : KeptAccount). account.capacity)
           (c.in_ok-accounts.ensures.each p (subst (λ (n : ℕ). p < n) (sym count) lt));
     }
