@@ -28,7 +28,7 @@ mod traced;
 
 pub use endings::Endings;
 pub use memories::Memories;
-pub use ptk_rv32i::{CallRow, place_of};
+pub use ptk_rv32i::{RowToCall, place_of};
 pub use ptk_syncs::Roster;
 pub use ptk_trace::Trace;
 pub use records::{Records, records_of};

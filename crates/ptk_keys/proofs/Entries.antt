@@ -36,4 +36,4 @@ changed_all f zero (x ∷ xs) le = absurd (omega (arith, le))
 changed_all f (suc i) [] le = refl
 changed_all f (suc i) (x ∷ xs) le = ap (λ l. f x ∷ l) (changed_all f i xs (omega (arith, le)))
 
-pub ruleset rows = (changed_next, changed_all, length-changed_to, add-one)
+pub ruleset by_thread = (changed_next, changed_all, length-changed_to, add-one)

@@ -16,8 +16,8 @@
 mod destructors;
 mod numbers;
 mod rounds;
-mod rows;
 mod table;
+mod values;
 
 pub use destructors::DestructorCall;
 pub use numbers::KeyNo;

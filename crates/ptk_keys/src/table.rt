@@ -9,7 +9,7 @@ ghost use Rattle.ptk_keys.specs.KeptKeys.{keys_at, put_keys, fresh_keys, with_ne
 use crate::destructors::{DestructorCall, next_call};
 use crate::numbers::{KeyNo, destructor_at, first_free, set_destructor_at, value_at};
 use crate::rounds::{begin_in, rounds_in, set_rounds_in};
-use crate::rows::{Row, clear_in, clear_key_in, rows, set_in, values_in};
+use crate::values::{ThreadValues, clear_in, clear_key_in, set_in, values_by_thread, values_in};
 use ptk_words::{Limits, PartId, Phase, ThreadNo};
 use ptk_words_model::{Rounds, thread_counts_of};
 use ptk_words_parted::Parted;
@@ -20,7 +20,7 @@ use std::marker::Model;
 #[derive(Drop)]
 pub struct KeyTable {
     destructors: Parted<Option<u32>>,
-    values: Parted<Row>,
+    values: Parted<ThreadValues>,
     rounds: Parted<Rounds>,
 }
 
@@ -231,13 +231,13 @@ fn destructors_of(alloc: Global, limits: &[Limits]) -> Result<Parted<Option<u32>
 
 /// Every value is 0.
 #[tactic(auto, using(crate::proofs::Tables::built))]
-fn values_of(alloc: Global, limits: &[Limits]) -> Result<Parted<Row>, AllocError>
+fn values_of(alloc: Global, limits: &[Limits]) -> Result<Parted<ThreadValues>, AllocError>
     requires { length limits.now ≤ 8 }
     ensures { IfOk result (λ parted. parted ≡ map (λ l. replicate l.threads (no_values l.keys)) limits.now) }
 {
     let mut values = Parted::new(alloc);
     for l in limits {
-        values.add_part(rows(alloc, l.threads, l.keys)?)?;
+        values.add_part(values_by_thread(alloc, l.threads, l.keys)?)?;
     }
     Ok(values)
 }

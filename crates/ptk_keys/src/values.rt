@@ -11,11 +11,11 @@ use std::marker::Model;
 
 /// The values of one thread by key from 1.
 #[derive(Drop)]
-pub(crate) struct Row {
+pub(crate) struct ThreadValues {
     values: Vec<u32>,
 }
 
-impl Model for Row {
+impl Model for ThreadValues {
     ghost use Rattle.std.specs.Prelude.{ℕ, List};
 
     ghost Value = { List ℕ };
@@ -23,13 +23,13 @@ impl Model for Row {
     ghost view = { λ a. a.values.items };
 }
 
-impl Row {
+impl ThreadValues {
     /// The value 0 for each of this many keys. An error where memory ran out.
-    pub(crate) fn new(alloc: Global, keys: u32) -> Result<Row, AllocError>
-        ensures { IfOk result (λ row. row ≡ no_values keys) }
+    pub(crate) fn new(alloc: Global, keys: u32) -> Result<ThreadValues, AllocError>
+        ensures { IfOk result (λ values. values ≡ no_values keys) }
     {
         let values = zeros(alloc, keys)?;
-        Ok(Row { values })
+        Ok(ThreadValues { values })
     }
 
     /// The values by key from 1.
@@ -66,58 +66,62 @@ fn zeros(alloc: Global, n: u32) -> Result<Vec<u32>, AllocError>
 }
 
 /// The value 0 for each of this many keys in each of this many threads. An error where memory ran out.
-pub(crate) fn rows(alloc: Global, threads: u32, keys: u32) -> Result<Vec<Row>, AllocError>
-    ensures { IfOk result (λ rows. rows.items ≡ replicate threads (no_values keys)) }
+pub(crate) fn values_by_thread(
+    alloc: Global,
+    threads: u32,
+    keys: u32,
+) -> Result<Vec<ThreadValues>, AllocError>
+    ensures { IfOk result (λ by_thread. by_thread.items ≡ replicate threads (no_values keys)) }
 {
-    let mut rows = Vec::new(alloc);
+    let mut by_thread = Vec::new(alloc);
     for i in 0..threads {
-        rows.push(Row::new(alloc, keys)?)?;
+        by_thread.push(ThreadValues::new(alloc, keys)?)?;
     }
-    Ok(rows)
+    Ok(by_thread)
 }
 
 /// The values of a thread, none past the last thread.
 #[tactic(auto, using(crate::proofs::Entries::numbers))]
-pub(crate) fn values_in(rows: &[Row], t: ThreadNo) -> &[u32]
-    ensures { result.now ≡ unwrap_or (numbered rows.now t) [] }
+pub(crate) fn values_in(by_thread: &[ThreadValues], t: ThreadNo) -> &[u32]
+    ensures { result.now ≡ unwrap_or (numbered by_thread.now t) [] }
 {
-    match rows.get(t.place()) {
-        Some(row) => row.values(),
+    match by_thread.get(t.place()) {
+        Some(values) => values.values(),
         None => &[],
     }
 }
 
 /// Sets a thread's value of a key.
 #[tactic(auto, using(crate::proofs::Entries::numbers))]
-pub(crate) fn set_in(rows: &mut [Row], t: ThreadNo, key: KeyNo, value: u32)
-    ensures { rows.new ≡ pool_update rows.old t (λ values. pool_set values key value) }
+pub(crate) fn set_in(by_thread: &mut [ThreadValues], t: ThreadNo, key: KeyNo, value: u32)
+    ensures { by_thread.new ≡ pool_update by_thread.old t (λ values. pool_set values key value) }
 {
     let place = t.place();
-    if place < rows.len() {
-        let row = &mut rows[place];
-        row.set(key, value);
+    if place < by_thread.len() {
+        let values = &mut by_thread[place];
+        values.set(key, value);
     }
 }
 
 /// Every value of a thread is 0.
 #[tactic(auto, using(crate::proofs::Entries::numbers))]
-pub(crate) fn clear_in(rows: &mut [Row], t: ThreadNo)
-    ensures { rows.new ≡ pool_update rows.old t (λ _. no_values (length (unwrap_or (numbered rows.old t) []))) }
+pub(crate) fn clear_in(by_thread: &mut [ThreadValues], t: ThreadNo)
+    ensures { by_thread.new ≡ pool_update by_thread.old t (λ _. no_values (length (unwrap_or (numbered by_thread.old t) []))) }
 {
     let place = t.place();
-    if place < rows.len() {
-        let row = &mut rows[place];
-        row.clear();
+    if place < by_thread.len() {
+        let values = &mut by_thread[place];
+        values.clear();
     }
 }
 
 /// The value of a key is 0 in every thread.
-#[tactic(auto, using(crate::proofs::Entries::rows))]
-pub(crate) fn clear_key_in(rows: &mut [Row], key: KeyNo)
-    ensures { rows.new ≡ map (λ values. pool_set values key 0) rows.old }
+#[tactic(auto, using(crate::proofs::Entries::by_thread))]
+pub(crate) fn clear_key_in(by_thread: &mut [ThreadValues], key: KeyNo)
+    ensures { by_thread.new ≡ map (λ values. pool_set values key 0) by_thread.old }
 {
-    for i in 0..rows.len() {
-        let row = &mut rows[i];
-        row.set(key, 0);
+    for i in 0..by_thread.len() {
+        let values = &mut by_thread[i];
+        values.set(key, 0);
     }
 }
