@@ -1,5 +1,9 @@
 //! The members of JSON objects.
 
+ghost use Rattle.std.specs.Prelude.{◌≡◌, OnOk};
+ghost use Rattle.serde.specs.Event.{Logs};
+ghost use Rattle.ptk_main_runs.specs.Members.{SendsAll, member_events, object_events, optional_value, value_event};
+
 use serde::Serializer;
 
 /// The value of a member.
@@ -15,7 +19,9 @@ pub enum Value<'a> {
 
 impl<'a> Value<'a> {
     /// A number, null where there is none.
-    pub fn optional(number: Option<u64>) -> Value<'a> {
+    pub fn optional(number: Option<u64>) -> Value<'a>
+        ensures { result ≡ optional_value number }
+    {
         match number {
             Some(number) => Value::Number(number),
             None => Value::Null,
@@ -27,7 +33,9 @@ impl<'a> Value<'a> {
 pub fn put_members<S: Serializer>(
     members: &[(&str, Value<'_>)],
     out: &mut S,
-) -> Result<(), S::Error> {
+) -> Result<(), S::Error>
+    ensures { OnOk result (SendsAll (member_events members.now) (S.written out.old) (S.written out.new)) }
+{
     for (key, value) in members {
         out.key(key)?;
         put_value(*value, out)?;
@@ -40,15 +48,19 @@ pub fn put_object<S: Serializer>(
     key: &str,
     members: &[(&str, Value<'_>)],
     out: &mut S,
-) -> Result<(), S::Error> {
+) -> Result<(), S::Error>
+    ensures { OnOk result (SendsAll (object_events key.now members.now) (S.written out.old) (S.written out.new)) }
+{
     out.key(key)?;
     out.begin_map(None)?;
     put_members(members, out)?;
     out.end_map()
 }
 
-// Puts a value.
-fn put_value<S: Serializer>(value: Value<'_>, out: &mut S) -> Result<(), S::Error> {
+/// Puts a value. An error where `out` gives one.
+fn put_value<S: Serializer>(value: Value<'_>, out: &mut S) -> Result<(), S::Error>
+    ensures { OnOk result (Logs (S.written out.old) (S.written out.new) (value_event value.entry)) }
+{
     match value {
         Value::Number(number) => out.u64(number),
         Value::Word(word) => out.str(word),

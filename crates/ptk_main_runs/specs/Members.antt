@@ -1,0 +1,31 @@
+-- The members of JSON objects, as what they send to a writer of JSON (RFC 8259 section 4).
+use Rattle.std.specs.Prelude.{◌≡◌, ℕ, List, [], ◌∷◌, ◌++◌, Option, Some, None, ⊤, flat_map}
+use Rattle.std.specs.Borrow.{Bor}
+use Rattle.serde.specs.Event.{Event, Log, unsigned, text, nothing, map_begins, map_ends, field_key}
+use Rattle.serde.specs.declared.name.Case.TheVariants.{AsIs}
+use Rattle.ptk_main_runs.specs.declared.members.Value.{Value}
+use Rattle.ptk_main_runs.specs.declared.members.Value.TheVariants.{Number, Word, Null}
+
+-- a number, null where there is none (own)
+abbrev pub optional_value : Option ℕ → Value
+optional_value (Some number) = Number number
+optional_value None = Null
+
+-- what a value sends (RFC 8259 section 3)
+abbrev pub value_event : Value → Event
+value_event (Number number) = unsigned number
+value_event (Word word) = text word.now
+value_event Null = nothing
+
+-- what members send: each its key, and then its value (RFC 8259 section 4)
+abbrev pub member_events : List (Bor (List ℕ) × Value) → List Event
+member_events members = flat_map (λ member. field_key member.0.now AsIs ∷ value_event member.1 ∷ []) members
+
+-- what an object of these members under a key sends (RFC 8259 section 4)
+abbrev pub object_events : List ℕ → List (Bor (List ℕ) × Value) → List Event
+object_events key members = field_key key AsIs ∷ map_begins None ∷ member_events members ++ (map_ends ∷ [])
+
+-- where what was sent before is known, these come behind it (own)
+abbrev pub SendsAll : List Event → Log → Log → Type 0
+SendsAll events None new = ⊤
+SendsAll events (Some before) new = new ≡ Some (before ++ events)
