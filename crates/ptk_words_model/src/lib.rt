@@ -105,9 +105,9 @@ pub struct Cancellation {
 /// How far a thread's destructor calls are (pthread_key_create).
 #[derive(Clone, Copy, PartialEq, Eq)]
 pub struct Rounds {
-    /// The round, from 1; 0 before an unwinding.
+    /// How many rounds have begun.
     pub round: u32,
-    /// The last key passed in this round, 0 for none.
+    /// How many keys, from key 1 on, are passed in this round.
     pub passed: u32,
 }
 
