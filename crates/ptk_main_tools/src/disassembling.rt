@@ -1,8 +1,9 @@
 //! `disasm`: the assembler text of an image.
 
-ghost use Rattle.std.specs.Prelude.{◌≡◌, Ok, IfOk, string_bytes};
+ghost use Rattle.std.specs.Prelude.{◌≡◌, Ok, IfOk, IfErr, string_bytes};
 ghost use Rattle.ptk_words.specs.Image.{ImageParts, image_of};
 ghost use Rattle.ptk_asm_language.specs.Source.{source};
+ghost use Rattle.ptk_main_tools.specs.Refusals.{HasNoSource};
 
 use crate::reading::{bytes_in, symbols_of, symbols_text_in};
 use ptk_disasm::{DisasmFault, disassemble_with};
@@ -37,7 +38,8 @@ fn text_of<'a>(
     bytes: &[u8],
     symbols: &Symbols<'_>,
 ) -> Result<String, Fault<'a>>
-    ensures { IfOk result (λ text. (image : ImageParts) × (image_of bytes.now ≡ Ok image) × (source (string_bytes text) ≡ Ok image)) }
+    ensures text { IfOk result (λ text. (image : ImageParts) × (image_of bytes.now ≡ Ok image) × (source (string_bytes text) ≡ Ok image)) }
+    ensures refused { IfErr result (λ fault. HasNoSource name.entry (image_of bytes.now) fault) }
 {
     let image = match read_image(alloc, bytes) {
         Ok(image) => image,
