@@ -5,8 +5,7 @@ ghost use Rattle.std.specs.Prelude.{◌<◌, ◌≤◌, length};
 use crate::history::History;
 use crate::refusal::refused_address;
 use ptk_disasm::push_word_statement;
-use ptk_main_runs::{Activity, System};
-use ptk_mutex_priorities::MutexState;
+use ptk_main_runs::{Activity, MutexState, System};
 use ptk_words::{Cause, Cpu, Entry, FaultKind, MutexNo, Owner, PartId, Phase, Thread, ThreadNo};
 use std::alloc::{AllocError, Global};
 

@@ -29,5 +29,6 @@ pub use laws::{
     decisions_are_own, idle_world, one_processor, steps_are_apart, stop_on_the_way, two_worlds,
 };
 pub use ptk_image::Files;
+pub use ptk_mutex_priorities::MutexState;
 pub use status::PartStatus;
 pub use system::System;
