@@ -13,6 +13,7 @@ use Rattle.ptk_ready.specs.Lines.{line_of}
 use Rattle.ptk_ready.specs.Partitions.{lines_by}
 use Rattle.ptk_ready.specs.Laws.{lines_same, filed_apart}
 use Rattle.ptk_ready.proofs.Partitions.{moved, read, roused, away_same, slot_of_used}
+use Rattle.ptk_ready.proofs.linked_line.LinkedLine.rouse.Goals.{in-Some, in-None}
 use Rattle.ptk_ready.proofs.linked_line.LinkedLine.rouse.Goals as goal
 
 pub push_tail-name-requires : goal.push_tail-name-requires
@@ -32,44 +33,42 @@ pass_updated-requires-clause-free g c = subst (λ (o : Option QueueName). IsUnqu
 pub append_updated-requires-clause-free : goal.append_updated-requires-clause-free
 append_updated-requires-clause-free g c = subst (λ (o : Option QueueName). IsUnqueued c.args.k (with_out_of o c.args.k (part_of c.args.threads.now.queues c.args.p))) c.in-None.is c.requires.free
 
-pub returns-in-Some : goal.returns-in-Some
-returns-in-Some g c =
-    let from = c.in-Some.from in
-    let far : 32 ≤ place_of from = subst (λ (o : Option QueueName). IfSome o (λ name. 32 ≤ place_of name)) c.in-Some.is c.requires.waiters in
+pub returns : goal.returns
+returns g c =
     let lists = queues (links_of c.linked-part.result.slots.now) c.linked-part.result.ends.now in
     let was = read g.row.LIMIT c.self.inside.entries.items c.args.self.now c.args.threads.now c.args.p c.index.result lists c.stored.result.now c.index_mut-entries.result.now
     c.self.view_is c.index.ensures c.requires.sound c.requires.partition.0 c.index_mut-entries.ensures.value c.linked-part.ensures.lists c.stored.ensures.priorities in
     let priority = subst (λ (s : List ℕ). (0 < stored_of s c.args.k) × (stored_of s c.args.k ≤ 32)) (sym c.stored.ensures.priorities) c.requires.priority in
     let low : place_of c.push_tail-name.result < 32 = omega (arith, ap place_of c.push_tail-name.ensures.queue, priority.0, priority.1) in
-    let done = roused g.row.LIMIT c.args.self.now c.args.threads.now c.pass_updated.new.self c.args.p c.args.k from c.push_tail-name.result c.push_tail-name.new.self lists c.stored.result.now
-    (part_of (lines_by c.args.self.now c.args.threads.now.queues) c.args.p ++ c.args.k ∷ []) c.requires.sound was.within far low
-    (ap (λ (t : ThreadTable). t.queues) c.pass_updated.ensures) (ap (λ (t : ThreadTable). t.stored) c.pass_updated.ensures) c.linked-part.ensures.lists c.stored.ensures.priorities
-    c.push_tail-name.ensures.sound (c.push_tail-name.ensures.line ∙ ap (λ l. l ++ c.args.k ∷ []) was.same) in
-    rw (c.self.view_is, c.index.ensures, c.in-Some.is) (record {
-      sound = done.sound;
-      waiters = done.waiters;
-      line = done.told ∙ ap (λ lines. set lines c.args.p (part_of (lines_by c.args.self.now c.args.threads.now.queues) c.args.p ++ c.args.k ∷ []))
-          (sym (lines_same c.args.self.now c.args.threads.now.queues _ (away_same c.args.p c.args.k from c.args.threads.now far)));
-      threads = ap (λ (t : ThreadTable). t.threads) c.pass_updated.ensures;
-      stored = ap (λ (t : ThreadTable). t.stored) c.pass_updated.ensures;
-    })
-
-pub returns-in-None : goal.returns-in-None
-returns-in-None g c =
-    let lists = queues (links_of c.linked-part.result.slots.now) c.linked-part.result.ends.now in
-    let was = read g.row.LIMIT c.self.inside.entries.items c.args.self.now c.args.threads.now c.args.p c.index.result lists c.stored.result.now c.index_mut-entries.result.now
-    c.self.view_is c.index.ensures c.requires.sound c.requires.partition.0 c.index_mut-entries.ensures.value c.linked-part.ensures.lists c.stored.ensures.priorities in
-    let after = with_last c.push_tail-name.result c.args.k (part_of c.args.threads.now.queues c.args.p) in
-    let same : with_last c.push_tail-name.result c.args.k lists ≡ after = ap (with_last c.push_tail-name.result c.args.k) c.linked-part.ensures.lists in
-    let done = moved g.row.LIMIT c.args.self.now c.args.threads.now c.append_updated.new.self c.args.p c.push_tail-name.new.self after (part_of (lines_by c.args.self.now c.args.threads.now.queues) c.args.p ++ c.args.k ∷ [])
-    c.requires.sound was.within (ap (λ (t : ThreadTable). t.queues) c.append_updated.ensures) (λ q ne. ap (λ (t : ThreadTable). part_of t.stored q) c.append_updated.ensures)
-    (rw (ap (λ (t : ThreadTable). t.stored) c.append_updated.ensures, ← same, ← c.stored.ensures.priorities) c.push_tail-name.ensures.sound)
-    (ap (λ l. line_of l c.push_tail-name.new.self.stamps) (sym same) ∙ (c.push_tail-name.ensures.line ∙ ap (λ l. l ++ c.args.k ∷ []) was.same))
-    (ap (drop 32) (sym same) ∙ (c.push_tail-name.ensures.waiters ∙ ap (drop 32) c.linked-part.ensures.lists)) in
-    rw (c.self.view_is, c.index.ensures, c.in-None.is) (record {
-      sound = done.sound;
-      waiters = done.waiters ∙ ap waiters_of (sym (set-get_or c.args.threads.now.queues c.args.p []));
-      line = done.told;
-      threads = ap (λ (t : ThreadTable). t.threads) c.append_updated.ensures;
-      stored = ap (λ (t : ThreadTable). t.stored) c.append_updated.ensures;
-    })
+    let line : List ℕ = part_of (lines_by c.args.self.now c.args.threads.now.queues) c.args.p ++ c.args.k ∷ [] in
+    elim c.match-from.branch [
+      | in-Some w ↦
+          (let from = w.in-Some.from in
+          let far : 32 ≤ place_of from = subst (λ (o : Option QueueName). IfSome o (λ name. 32 ≤ place_of name)) w.in-Some.is c.requires.waiters in
+          let done = roused g.row.LIMIT c.args.self.now c.args.threads.now w.pass_updated.new.self c.args.p c.args.k from c.push_tail-name.result c.push_tail-name.new.self lists c.stored.result.now
+          line c.requires.sound was.within far low
+          (ap (λ (t : ThreadTable). t.queues) w.pass_updated.ensures) (ap (λ (t : ThreadTable). t.stored) w.pass_updated.ensures) c.linked-part.ensures.lists c.stored.ensures.priorities
+          c.push_tail-name.ensures.sound (c.push_tail-name.ensures.line ∙ ap (λ l. l ++ c.args.k ∷ []) was.same) in
+          rw (c.self.view_is, c.index.ensures, w.in-Some.is, w.threads-is) (record {
+            sound = done.sound;
+            waiters = done.waiters;
+            line = done.told ∙ ap (λ lines. set lines c.args.p line) (sym (lines_same c.args.self.now c.args.threads.now.queues _ (away_same c.args.p c.args.k from c.args.threads.now far)));
+            threads = ap (λ (t : ThreadTable). t.threads) w.pass_updated.ensures;
+            stored = ap (λ (t : ThreadTable). t.stored) w.pass_updated.ensures;
+          }))
+      | in-None w ↦
+          (let after = with_last c.push_tail-name.result c.args.k (part_of c.args.threads.now.queues c.args.p) in
+          let same : with_last c.push_tail-name.result c.args.k lists ≡ after = ap (with_last c.push_tail-name.result c.args.k) c.linked-part.ensures.lists in
+          let done = moved g.row.LIMIT c.args.self.now c.args.threads.now w.append_updated.new.self c.args.p c.push_tail-name.new.self after line
+          c.requires.sound was.within (ap (λ (t : ThreadTable). t.queues) w.append_updated.ensures) (λ q ne. ap (λ (t : ThreadTable). part_of t.stored q) w.append_updated.ensures)
+          (rw (ap (λ (t : ThreadTable). t.stored) w.append_updated.ensures, ← same, ← c.stored.ensures.priorities) c.push_tail-name.ensures.sound)
+          (ap (λ l. line_of l c.push_tail-name.new.self.stamps) (sym same) ∙ (c.push_tail-name.ensures.line ∙ ap (λ l. l ++ c.args.k ∷ []) was.same))
+          (ap (drop 32) (sym same) ∙ (c.push_tail-name.ensures.waiters ∙ ap (drop 32) c.linked-part.ensures.lists)) in
+          rw (c.self.view_is, c.index.ensures, w.in-None.is, w.threads-is) (record {
+            sound = done.sound;
+            waiters = done.waiters ∙ ap waiters_of (sym (set-get_or c.args.threads.now.queues c.args.p []));
+            line = done.told;
+            threads = ap (λ (t : ThreadTable). t.threads) w.append_updated.ensures;
+            stored = ap (λ (t : ThreadTable). t.stored) w.append_updated.ensures;
+          }))
+    ]
