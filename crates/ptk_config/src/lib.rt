@@ -36,3 +36,4 @@ pub mod parts {
 
 pub use fault::ConfigFault;
 pub use section::Section;
+pub use window::place_named;

@@ -14,9 +14,9 @@ use ptk_words_windows::Window;
 use std::alloc::Global;
 use toml::Value;
 
-/// The place of the first section of this name.
-fn position_of(sections: &[Section], name: &str) -> Option<usize>
-    ensures value { result ≡ position (λ s. bytes_eq s.name name.now) sections.now }
+/// The place of the first section of this name, None where no section has it.
+pub fn place_named(sections: &[Section], name: &str) -> Option<usize>
+    ensures place { result ≡ position (λ s. bytes_eq s.name name.now) sections.now }
     ensures within { IfSome result (λ i. i < length sections.now) }
 {
     sections.iter().position(|section| section.has_name(name))
@@ -27,7 +27,7 @@ fn number_of(sections: &[Section], name: &str) -> PartId
     requires { length sections.now ≤ 8 }
     ensures { result ≡ number_of sections.now name.now }
 {
-    match position_of(sections, name) {
+    match place_named(sections, name) {
         Some(number) => PartId::new(number as u8),
         None => PartId::new(sections.len() as u8),
     }

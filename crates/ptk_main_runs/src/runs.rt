@@ -1,8 +1,7 @@
 //! Whole runs: from a configuration, its files and a number of ticks to a report or a trace.
 
-ghost use Rattle.std.specs.Prelude.{◌≡◌, ◌≢◌, ◌<◌, ◌≤◌, ℕ, Some, None, IfErr, IfOk, IfSome, IsSome, MatchResult, OnOk, length, position};
+ghost use Rattle.std.specs.Prelude.{◌≡◌, ◌≢◌, ◌<◌, ◌≤◌, ℕ, Some, None, IfErr, IfOk, IfSome, IsSome, MatchResult, OnOk, length};
 ghost use Rattle.std.specs.Io.KnownBytes.{Appends};
-ghost use Rattle.std.specs.Str.{bytes_eq};
 ghost use Rattle.ptk_words.specs.declared.TheConstants.{LAST_TICK};
 ghost use Rattle.ptk_words_model.specs.Text.{trace_text};
 ghost use Rattle.ptk_system.specs.Missing.{first_missing};
@@ -12,7 +11,7 @@ ghost use Rattle.ptk_main_runs.specs.declared.runs.RunFault.TheVariants.{NoParti
 ghost use Rattle.ptk_main_runs.specs.RunFaults.{missing_in_run};
 ghost use Rattle.ptk_main_runs.specs.Parts.{part_named};
 
-use ptk_config::{Config, Section};
+use ptk_config::{Config, place_named};
 use ptk_system::{BootFault, Files, System};
 use ptk_words::{PartId, Tick};
 use std::alloc::Global;
@@ -94,15 +93,7 @@ pub fn part_named(config: &Config, name: &str) -> Option<PartId>
     Some(PartId::new(place as u8))
 }
 
-// The place of the section of a name, None where no section has it.
-fn place_named(sections: &[Section], name: &str) -> Option<usize>
-    ensures place { result ≡ position (λ section. bytes_eq section.name name.now) sections.now }
-    ensures within { IfSome result (λ place. place < length sections.now) }
-{
-    sections.iter().position(|section| section.has_name(name))
-}
-
-// The trace of a partition.
+/// The trace of a partition.
 fn traced<W: Write>(
     alloc: Global,
     config: &Config,
