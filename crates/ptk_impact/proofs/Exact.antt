@@ -1,5 +1,5 @@
 -- What `==` says of optional values, where it says of values whether they are the same.
-use Rattle.std.proofs.Common.{◌≡◌, ◌≢◌, Bool, true, false, Option, Some, None, refl, sym, ap}
+use Rattle.std.proofs.Common.{◌≡◌, ◌≢◌, ◌∙◌, Bool, true, false, Option, Some, None, refl, sym, ap}
 use Rattle.std.specs.Prelude.{◌↔◌, IsTrue, is_some, unwrap_or}
 use Rattle.std.specs.Option.{option_eq}
 
