@@ -74,6 +74,15 @@ fn is_naming_at(threads: &[Slot], t: ThreadNo, m: MutexNo) -> bool
 fn is_naming(slot: &Slot, m: MutexNo) -> bool
     ensures { result ≡ is_named m (mutex_of_condition_wait (wait_of slot.now.thread)) }
 {
-    let named = slot.wait().and_then(Wait::condition_mutex);
-    is_named(m, named)
+    is_named(m, mutex_of_condition_wait(slot.wait()))
+}
+
+/// The mutex that a condition wait names; None of any other wait, and of a thread that does not wait.
+pub(crate) fn mutex_of_condition_wait(wait: Option<Wait>) -> Option<MutexNo>
+    ensures { result ≡ mutex_of_condition_wait wait }
+{
+    match wait {
+        Some(wait) => wait.condition_mutex(),
+        None => None,
+    }
 }

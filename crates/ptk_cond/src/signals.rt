@@ -11,9 +11,10 @@ ghost use Rattle.ptk_mutex.specs.Sound.{IsSound};
 ghost use Rattle.ptk_cond.specs.Tables.{syncs_at, put_syncs, AreSynced, MayLeave, next_waiter};
 ghost use Rattle.ptk_cond.specs.Visits.{IsVisitedBySignal};
 
+use crate::naming::mutex_of_condition_wait;
 use ptk_mutex::{Mutexes, Roster, relock_move};
 use ptk_threads::Members;
-use ptk_words::{ConditionNo, MutexNo, PartId, ThreadNo, Wait};
+use ptk_words::{ConditionNo, MutexNo, PartId, ThreadNo};
 
 /// The waiter of greatest effective priority, the earliest among equals, is unblocked: it re-locks the mutex that it
 /// named, with reply 0 (pthread_cond_signal). Nothing changes without waiters.
@@ -67,7 +68,7 @@ pub fn withdraw(
     ensures ready { AreSynced p roster.new }
     ensures sound { IsSound roster.old → IsSound roster.new }
 {
-    let named = roster.threads().wait(p, t).and_then(Wait::condition_mutex);
+    let named = mutex_of_condition_wait(roster.threads().wait(p, t));
     unblock(roster, mutexes, p, t, c, reply, named);
 }
 

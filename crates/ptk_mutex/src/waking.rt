@@ -8,7 +8,7 @@ ghost use Rattle.ptk_words.specs.declared.TheConstants.{THREAD_LIMIT};
 ghost use Rattle.ptk_words_parted.specs.Parts.{part_of};
 ghost use Rattle.ptk_words_model.specs.Schedule.{woken_with};
 ghost use Rattle.ptk_words_model.specs.declared.LockMove.TheVariants.{Counts, Waits};
-ghost use Rattle.ptk_words_model.specs.Mutex.{mutex_at, count_of, relock_move, after_relock, after_relock_move, after_leave};
+ghost use Rattle.ptk_words_model.specs.Mutex.{mutex_at, count_of, kept_reply, relock_move, after_relock, after_relock_move, after_leave};
 ghost use Rattle.ptk_words_model.specs.Condition.{waiters_on};
 ghost use Rattle.ptk_words_sync_invariant.specs.Conditions.{IsNoWaiter};
 ghost use Rattle.ptk_threads.specs.Table.{thread_in, with_changed};
@@ -141,8 +141,19 @@ pub(crate) fn leave(roster: &mut Roster, p: PartId, t: ThreadNo, m: MutexNo, mad
     requires waiter { IsWaiter (locks_at p roster.old) m t }
     ensures { roster.new ≡ put_locks_alone p (after_leave made t m (locks_at p roster.old)) roster.old }
 {
-    let kept = roster.threads().wait(p, t).and_then(Wait::kept_reply);
+    let kept = kept_reply(roster.threads().wait(p, t));
     take_out(roster, p, t, m, made.reply_after(kept));
+}
+
+/// The reply that a waiter is to have once it has the mutex, as its wait keeps it; None of a thread that does not wait.
+#[inline(always)]
+fn kept_reply(wait: Option<Wait>) -> Option<u32>
+    ensures { result ≡ kept_reply wait }
+{
+    match wait {
+        Some(wait) => wait.kept_reply(),
+        None => None,
+    }
 }
 
 /// A waiter leaves and is woken; the stored priorities stay.
