@@ -15,6 +15,7 @@ use Rattle.ptk_main_line.specs.declared.commands.Takes.TheVariants.{Word, FreeWo
 use Rattle.ptk_main_line.specs.declared.commands.Takes.TheVariants as takes
 use Rattle.ptk_main_line.specs.Requests.{Gives}
 use Rattle.ptk_main_line.specs.declared.requests.Request.{Request}
+use Rattle.ptk_main_line.specs.declared.line.TheConstants.{MOST_STEPS, MOST_THREADS, MOST_TICKS}
 
 -- ---- the arguments
 
@@ -46,7 +47,7 @@ number_option name least most = record (new_rule name) {
 
 -- an option whose value is a number from 0 to 2^40; it may be left out (own)
 abbrev pub ticks_option : Text → Rule
-ticks_option name = number_option name 0 1099511627776
+ticks_option name = number_option name 0 MOST_TICKS
 
 -- --ticks N, of which N is a number from 0 to 2^40 (own)
 abbrev pub ticks : Rule
@@ -61,8 +62,8 @@ rule_taking RequiredText name = required_option name
 rule_taking Nothing name = flag name
 rule_taking Ticks name = ticks_option name
 rule_taking RequiredTicks name = record (ticks_option name) { required = true }
-rule_taking Thread name = number_option name 1 32
-rule_taking Steps name = number_option name 1 1048576
+rule_taking Thread name = number_option name 1 MOST_THREADS
+rule_taking Steps name = number_option name 1 MOST_STEPS
 
 -- what clap is given of an argument of a table (own)
 abbrev pub rule_for : Argument → Rule
@@ -87,8 +88,8 @@ run = with_rules (run_rules (new_app (codes "run"))) (text_option (codes "expect
 -- trace FILE --ticks N --partition NAME [--decode] [--symbols FILE] [--thread K] [--calls] [--from T] [--to T] [--last K] [--explain] [--root DIR] (own)
 abbrev pub trace : App
 trace = with_rules (run_rules (new_app (codes "trace"))) (required_option (codes "partition") ∷ flag (codes "decode")
-    ∷ text_option (codes "symbols") ∷ number_option (codes "thread") 1 32 ∷ flag (codes "calls") ∷ ticks_option (codes "from")
-    ∷ ticks_option (codes "to") ∷ number_option (codes "last") 1 1048576 ∷ flag (codes "explain") ∷ [])
+    ∷ text_option (codes "symbols") ∷ number_option (codes "thread") 1 MOST_THREADS ∷ flag (codes "calls") ∷ ticks_option (codes "from")
+    ∷ ticks_option (codes "to") ∷ number_option (codes "last") 1 MOST_STEPS ∷ flag (codes "explain") ∷ [])
 
 -- timeline FILE --ticks N [--from M] [--format FORMAT] [--symbols FILE] [--root DIR] (own)
 abbrev pub timeline : App

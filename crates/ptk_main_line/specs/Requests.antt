@@ -1,5 +1,5 @@
 -- What a subcommand and the rows of its matches ask for.
-use Rattle.std.specs.Prelude.{◌≡◌, ◌^◌, ◌||◌, Bool, List, Option, Some, is_some}
+use Rattle.std.specs.Prelude.{◌≡◌, ◌||◌, Bool, List, Option, Some, is_some}
 use Rattle.std.specs.Prelude.{MatchOption, codes}
 use Rattle.clap.specs.Words.{Row, Text, first_of}
 use Rattle.ptk_main_line.specs.Values.{HasFlag, HasText, HasTicks, MayHaveNumber, MayHaveText}
@@ -16,6 +16,7 @@ use Rattle.ptk_main_line.specs.declared.requests.ExplainOptions.{ExplainOptions}
 use Rattle.ptk_main_line.specs.declared.requests.StatsOptions.{StatsOptions}
 use Rattle.ptk_main_line.specs.declared.requests.Request.{Request}
 use Rattle.ptk_main_line.specs.declared.requests.Request.TheVariants.{Run, Trace, Timeline, Asm, Check, Disasm, Impact, Explain, Stats}
+use Rattle.ptk_main_line.specs.declared.line.TheConstants.{MOST_STEPS, MOST_THREADS, MOST_TICKS}
 
 -- ---- the options of each command
 
@@ -37,10 +38,10 @@ IsRun rows o = IsRunTo rows o.run
 abbrev pub IsTrace : List Row → TraceOptions → Type 0
 IsTrace rows o = IsRunTo rows o.run
     × HasText (codes "partition") o.partition.now rows
-    × MayHaveNumber (codes "thread") 1 32 o.thread rows
-    × MayHaveNumber (codes "from") 0 (2 ^ 40) o.from rows
-    × MayHaveNumber (codes "to") 0 (2 ^ 40) o.to rows
-    × MayHaveNumber (codes "last") 1 (2 ^ 20) o.last rows
+    × MayHaveNumber (codes "thread") 1 MOST_THREADS o.thread rows
+    × MayHaveNumber (codes "from") 0 MOST_TICKS o.from rows
+    × MayHaveNumber (codes "to") 0 MOST_TICKS o.to rows
+    × MayHaveNumber (codes "last") 1 MOST_STEPS o.last rows
     × MayHaveText (codes "symbols") o.symbols rows
     × HasFlag (codes "decode") o.decode rows
     × HasFlag (codes "calls") o.calls rows
@@ -53,7 +54,7 @@ wants_words o = is_some o.symbols || (is_some o.thread || (o.calls || (is_some o
 -- timeline (own)
 abbrev pub IsTimeline : List Row → TimelineOptions → Type 0
 IsTimeline rows o = IsRunTo rows o.run
-    × MayHaveNumber (codes "from") 0 (2 ^ 40) o.from rows
+    × MayHaveNumber (codes "from") 0 MOST_TICKS o.from rows
     × (picture_of (first_of (codes "format") rows) ≡ Some o.format)
     × MayHaveText (codes "symbols") o.symbols rows
 

@@ -1,5 +1,5 @@
 -- The values that the rows of a subcommand's matches give its options.
-use Rattle.std.specs.Prelude.{◌≡◌, ◌≤◌, ◌^◌, ◌↔◌, ℕ, Bool, List, Option, Some, None}
+use Rattle.std.specs.Prelude.{◌≡◌, ◌≤◌, ◌↔◌, ℕ, Bool, List, Option, Some, None}
 use Rattle.std.specs.Prelude.{IsTrue, MatchOption, find, option_and_then, option_map}
 use Rattle.std.specs.Borrow.{Bor}
 use Rattle.std.specs.Str.{bytes_eq}
@@ -7,6 +7,7 @@ use Rattle.std.specs.Str.Parse.{IsNumeral, without_leading_plus, digits_value}
 use Rattle.clap.specs.Words.{Row, Text, first_of, one_of}
 use Rattle.clap.specs.declared.parser.matches.ValueSource.{ValueSource}
 use Rattle.clap.specs.declared.parser.matches.ValueSource.TheVariants.{CommandLine}
+use Rattle.ptk_main_line.specs.declared.line.TheConstants.{MOST_TICKS}
 
 -- the value of an argument is this text (own)
 abbrev pub HasText : Text → Text → List Row → Type 0
@@ -29,7 +30,7 @@ MayHaveNumber id least most (Some n) rows = HasNumber id least most n rows
 
 -- the value of an argument is a number of ticks, at most 2^40 (own)
 abbrev pub HasTicks : Text → ℕ → List Row → Type 0
-HasTicks id n rows = HasNumber id 0 (2 ^ 40) n rows
+HasTicks id n rows = HasNumber id 0 MOST_TICKS n rows
 
 -- where an argument has its value from, if it has one (`value_source` of clap)
 abbrev pub source_of : Text → List Row → Option ValueSource
