@@ -4,7 +4,8 @@
 //! what it says of an outcome, `asm` and `disasm`.
 //!
 //! - The status of each outcome (`end`, `tell`).
-//! - The text of a disassembly is a source of the image that the file's bytes are (`text_of`).
+//! - The text of a disassembly is a source of the image that the file's bytes are, and of bytes that are no image the
+//!   fault is that of the format (`text_of`).
 //! - Which files it reads is tested; which stream gets what is neither proved nor tested.
 //!
 //! Below are the command line (`ptk_main_line`), the lines of faults (`ptk_main_faults`), the configuration
