@@ -158,7 +158,7 @@ shade_small Relock = omega arith
 shade_small Ended = omega arith
 shade_small Halted = omega arith
 
--- what is told of a tally
+-- the cell that a tally makes is right for its looks
 pub cell_told : (look : ℕ → Look) (a b place : ℕ) (default : Look) (tally : Tally) → a < b → IsTallyOf look a b tally → place < SHADES
     → ((k : ℕ) → k < SHADES → get_or tally.ticks k 0 ≤ get_or tally.ticks place 0) → ((k : ℕ) → k < place → get_or tally.ticks k 0 < get_or tally.ticks place 0)
     → IsCellOf look a b (record { look = get_or tally.looks place default; is_mixed = nat_lt (get_or tally.ticks place 0) tally.total })

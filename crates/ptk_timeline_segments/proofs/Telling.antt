@@ -1,4 +1,4 @@
--- What a lane tells from one change of its partition to the next.
+-- What a lane shows from one change of its partition to the next.
 use Rattle.std.proofs.Common.{◌≡◌, ℕ, zero, suc, ◌+◌, ◌-◌, ◌<◌, ◌≤◌, nat_lt, min, max, Bool, true, false, ◌&&◌, if◌then◌else◌, Option, Some, None, unwrap_or, length, get_or, ◌⊎◌, inl, inr, refl, sym, ap, subst, ◌∙◌, arith, add-zero, add-suc}
 use Rattle.std.proofs.lemmas.Bool.{cases_lt, le-ltb}
 use Rattle.std.proofs.Math.Bool.{and-false}
@@ -115,7 +115,7 @@ end_due world p tick due scale at before is sooner = by (cases_lt (tick + 1) end
         omega (arith, reached, sooner)
     by (inr soon) = let begun : world.tick ≤ due = is.from (omega (arith, at, before)) in omega (arith, begun, at, soon)
 
--- a lane as its partition's states tell it, in parts
+-- a lane as its partition's states show it, in parts
 pub states_stay : (world : World) (p due : ℕ) (scale : Scale) → IsDue world p scale due → Stays (history world p) (history world p world.tick) world.tick due
 states_stay world p due scale is = record { same = λ k from to. is.stays k from to ∙ ap but_next is.now }
 

@@ -1,4 +1,4 @@
--- What a lane tells of a partition.
+-- What a lane shows of a partition.
 use Rattle.std.specs.Prelude.{◌≡◌, ℕ, ◌+◌, ◌-◌, ◌<◌, ◌≤◌, ◌==◌, nat_lt, min, max, Bool, false, ◌&&◌, if◌then◌else◌, Option, Some, None, length, slice_index_or}
 use Rattle.ptk_words.specs.declared.sections.Entry.{Entry}
 use Rattle.ptk_words_windows.specs.Windows.{OwnTicks, own_ticks}
@@ -34,7 +34,7 @@ pub record GoesOn (look : Look) (busy : Option Busy) (t until : ℕ) (old new : 
   pub counted : new.counted ≡ max old.counted (min until old.scale.to)
   pub right : (f : ℕ → Look) → IsRowOf f old → ((k : ℕ) → old.counted ≤ k → k < new.counted → f k ≡ (if is_busy busy t k then stepping look else look)) → IsRowOf f new
 
--- a new row has counted to a tick, and tells of looks that are this one at each tick up to there
+-- a new row has counted to a tick, and shows looks that are this one at each tick up to there
 pub record StartsAs (scale : Scale) (look : Look) (until : ℕ) (row : LaneRow) : Type 0 where
   pub same : row.scale ≡ scale
   pub counted : row.counted ≡ max scale.from (min until scale.to)
@@ -48,13 +48,13 @@ pub record IsDue (world : World) (p : ℕ) (scale : Scale) (due : ℕ) : Type 0 
   pub from : world.tick ≤ scale.to → world.tick ≤ due
   pub next : (k : ℕ) → world.tick ≤ k → k ≤ scale.to → ((j : ℕ) → (state_of world p).account.next ≡ Some j → k ≤ j) → k ≤ due
 
--- the row tells of the looks of a thread up to the lane's tick
+-- the row shows the looks of a thread up to the lane's tick
 pub record IsThreadsRow (ticks : OwnTicks) (states : ℕ → State) (lane : Lane) (t : ℕ) (row : LaneRow) : Type 0 where
   pub scale : row.scale ≡ lane.scale
   pub counted : row.counted ≡ lane.due
   pub right : IsRowOf (look_at ticks states lane.scale.from t) row
 
--- the lane tells of a partition with these own ticks and states up to the tick at which something of it can change next
+-- the lane shows a partition with these own ticks and states up to the tick at which something of it can change next
 pub record IsLaneOf (ticks : OwnTicks) (states : ℕ → State) (lane : Lane) : Type 0 where
   pub from : lane.scale.from ≤ lane.due
   pub to : lane.due ≤ lane.scale.to

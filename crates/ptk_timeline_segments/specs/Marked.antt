@@ -1,4 +1,4 @@
--- What the marks of a lane tell of its partition.
+-- What the marks of a lane show of its partition.
 use Rattle.std.specs.Prelude.{◌≡◌, ℕ, ◌+◌, ◌-◌, ◌<◌, ◌≤◌, nat_lt, Bool, not, ◌&&◌, List, length, slice_index_or}
 use Rattle.ptk_words_model.specs.State.{State}
 use Rattle.ptk_words.specs.Faults.{is_active}

@@ -9,7 +9,7 @@ use Rattle.ptk_timeline_segments.specs.declared.marks.Marks.{Marks}
 abbrev pub no_marks : Marks
 no_marks = record { is_stepped = false; is_lost = false; is_dropped = false; is_halted = false }
 
--- what two tell together
+-- the marks of two together
 abbrev pub both : Marks → Marks → Marks
 both a b = record { is_stepped = a.is_stepped || b.is_stepped; is_lost = a.is_lost || b.is_lost; is_dropped = a.is_dropped || b.is_dropped; is_halted = a.is_halted || b.is_halted }
 

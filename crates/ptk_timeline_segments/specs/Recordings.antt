@@ -1,4 +1,4 @@
--- What a recording tells of a run.
+-- What a recording shows of a run.
 use Rattle.std.specs.Prelude.{◌≡◌, ℕ, ◌+◌, ◌-◌, ◌<◌, ◌≤◌, List, length, slice_index_or}
 use Rattle.ptk_words_windows.specs.Windows.{own_ticks}
 use Rattle.ptk_words_model.specs.State.{State}
@@ -18,7 +18,7 @@ use Rattle.ptk_timeline_segments.specs.Histories.{history, look_at}
 use Rattle.ptk_timeline_segments.specs.Lanes.{IsLaneOf}
 use Rattle.ptk_timeline_segments.specs.Marking.{marks_at}
 
--- each lane tells of its partition, up to this tick or a later one
+-- each lane shows its partition, up to this tick or a later one
 pub record AreLanesOf (world : World) (scale : Scale) (tick : ℕ) (lanes : List Lane) : Type 0 where
   pub count : length lanes ≡ length world.config.sections
   pub scales : (p : ℕ) (default : Lane) → p < length lanes → (slice_index_or lanes p default).scale ≡ scale
@@ -35,7 +35,7 @@ pub record TellsMarks (states : ℕ → State) (scale : Scale) (lane : Lane) : T
   pub columns : (column : ℕ) (default : Marks) → scale.from + column < scale.to
       → slice_index_or lane.marked.columns.items column default ≡ marks_at states scale.from (scale.to - scale.from) (scale.from + column)
 
--- each row of each lane tells of its thread, by partition and thread number, and in columns of one tick each lane of what came
+-- each row of each lane shows its thread, by partition and thread number, and in columns of one tick each lane shows what came
 pub record TellsOf (world : World) (recording : Recording) : Type 0 where
   pub parts : length recording.lanes.items ≡ length world.config.sections
   pub rows : (p place : ℕ) (lane : Lane) (default : LaneRow) → p < length recording.lanes.items

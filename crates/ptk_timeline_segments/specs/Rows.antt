@@ -1,4 +1,4 @@
--- What a row tells of a thread's looks.
+-- What a row shows of a thread's looks.
 use Rattle.std.specs.Prelude.{◌≡◌, ℕ, ◌+◌, ◌<◌, ◌≤◌, slice_index_or}
 use Rattle.ptk_timeline_segments.specs.declared.look.Look.{Look}
 use Rattle.ptk_timeline_segments.specs.declared.tally.Cell.{Cell}
@@ -11,7 +11,7 @@ use Rattle.ptk_timeline_segments.specs.Tallies.{IsTallyOf}
 abbrev pub HoldsOver : (ℕ → Look) → Look → ℕ → ℕ → Type 0
 HoldsOver look held from to = (k : ℕ) → from ≤ k → k < to → look k ≡ held
 
--- the row tells of these looks up to the tick to which it has counted: each column that is filled by its ticks, the next one by those so far
+-- the row shows these looks up to the tick to which it has counted: each column that is filled by its ticks, the next one by those so far
 pub record IsRowOf (look : ℕ → Look) (row : LaneRow) : Type 0 where
   pub cells : (column : ℕ) (default : Cell) → column < row.filled
       → IsCellOf look (start_of row.scale column) (start_of row.scale (column + 1)) (slice_index_or row.cells.items column default)

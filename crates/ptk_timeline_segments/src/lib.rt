@@ -8,7 +8,7 @@
 //!   whose owner, ended, halted or no thread, with its effective priority where that is raised.
 //! - A step's ticks are its thread's, up to the next decision or its window's end.
 //! - A column of many ticks has the last look of the shade that held at most of them, the first of these at a draw, and
-//!   tells whether another held too (`IsCellOf`); over ticks that a picture passes by `System::compute_to` no look
+//!   shows whether another held too (`IsCellOf`); over ticks that a picture passes by `System::compute_to` no look
 //!   changes (`IsPassed`).
 //! - Where a column is a tick, its marks are all that the decisions of the picture make there: a step begins, input is
 //!   lost, the partition halts, and each tick that is lost (`tells`: `TellsMarks`, `marks_at`).

@@ -38,7 +38,7 @@ impl Marks {
         }
     }
 
-    /// What these and others tell together.
+    /// These marks and others together.
     fn and(&self, others: &Marks) -> Marks
         ensures { result ≡ both self.now others.now }
     {
