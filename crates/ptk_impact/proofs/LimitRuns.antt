@@ -10,7 +10,7 @@ use Rattle.ptk_words_model.specs.declared.Spent.TheVariants.{Step, Idle, Lost}
 use Rattle.ptk_words_model.specs.State.{Part, Account, State}
 use Rattle.ptk_words_model.specs.Decision.{Decision, decision}
 use Rattle.ptk_words_model.specs.Run.{start, last_of, accounted, decided, is_at, after_tick_until, alone}
-use Rattle.ptk_impact.specs.Deeper.{with_trace, but_trace}
+use Rattle.ptk_impact.specs.Deeper.{with_trace_limit, but_trace}
 use Rattle.ptk_impact.proofs.Tails.{last-none, last_both}
 use Rattle.ptk_impact.proofs.Decided.{decision_same}
 
@@ -27,7 +27,7 @@ pub record IsSameRun (limits : Limits) (kept : ℕ) (s u : State) : Type 0 where
   pub account : IsSameAccount limits kept s.account u.account
 
 accounted_same : (ticks : OwnTicks) (limits : Limits) (kept tick room : ℕ) (part : Part) (spent : Spent) (a b : Account) → IsSameAccount limits kept a b
-    → IsSameAccount limits kept (accounted ticks (with_trace kept limits) tick room part spent a) (accounted ticks limits tick room part spent b)
+    → IsSameAccount limits kept (accounted ticks (with_trace_limit kept limits) tick room part spent a) (accounted ticks limits tick room part spent b)
 accounted_same ticks limits kept tick room part Idle a b same = record { next = refl; steps = same.steps; lost = same.lost; tail = same.tail }
 accounted_same ticks limits kept tick room part Lost a b same =
     record { next = refl; steps = same.steps; lost = ap (λ (n : ℕ). n + room) same.lost; tail = same.tail }
@@ -41,20 +41,20 @@ accounted_same ticks limits kept tick room part (Step cost) a b same =
 
 -- a decision on the same part
 decided_on : (ticks : OwnTicks) (limits : Limits) (kept tick room : ℕ) (part : Part) (a b : Account) → IsSameAccount limits kept a b
-    → IsSameRun limits kept (decided ticks (with_trace kept limits) tick room (record { part = part; account = a })) (decided ticks limits tick room (record { part = part; account = b }))
+    → IsSameRun limits kept (decided ticks (with_trace_limit kept limits) tick room (record { part = part; account = a })) (decided ticks limits tick room (record { part = part; account = b }))
 decided_on ticks limits kept tick room part a b same =
     let d : Decision = decision limits tick room part in
-    let one : decision (with_trace kept limits) tick room part ≡ decision limits tick room part = decision_same limits.output kept limits tick room part (inl refl) in
+    let one : decision (with_trace_limit kept limits) tick room part ≡ decision limits tick room part = decision_same limits.output kept limits tick room part (inl refl) in
     record {
       part = ap (λ (came : Decision). came.part) one;
-      account = subst (λ (came : Decision). IsSameAccount limits kept (accounted ticks (with_trace kept limits) tick room came.part came.spent a) (accounted ticks limits tick room d.part d.spent b))
+      account = subst (λ (came : Decision). IsSameAccount limits kept (accounted ticks (with_trace_limit kept limits) tick room came.part came.spent a) (accounted ticks limits tick room d.part d.spent b))
           (sym one) (accounted_same ticks limits kept tick room d.part d.spent a b same);
     }
 
 decided_same : (ticks : OwnTicks) (limits : Limits) (kept tick room : ℕ) (s u : State) → IsSameRun limits kept s u
-    → IsSameRun limits kept (decided ticks (with_trace kept limits) tick room s) (decided ticks limits tick room u)
+    → IsSameRun limits kept (decided ticks (with_trace_limit kept limits) tick room s) (decided ticks limits tick room u)
 decided_same ticks limits kept tick room s u same =
-    subst (λ (p : Part). IsSameRun limits kept (decided ticks (with_trace kept limits) tick room (record { part = p; account = s.account })) (decided ticks limits tick room u))
+    subst (λ (p : Part). IsSameRun limits kept (decided ticks (with_trace_limit kept limits) tick room (record { part = p; account = s.account })) (decided ticks limits tick room u))
     (sym same.part) (decided_on ticks limits kept tick room u.part s.account u.account same.account)
 
 either_same : (limits : Limits) (kept : ℕ) (b : Bool) (s s' u u' : State) → IsSameRun limits kept s' u' → IsSameRun limits kept s u → IsSameRun limits kept (cond b s' s) (cond b u' u)
@@ -62,24 +62,24 @@ either_same limits kept true s s' u u' one other = one
 either_same limits kept false s s' u u' one other = other
 
 until_same : (o : Option ℕ) (ticks : OwnTicks) (limits : Limits) (kept tick : ℕ) (s u : State) → IsSameRun limits kept s u
-    → IsSameRun limits kept (after_tick_until o ticks (with_trace kept limits) tick s) (after_tick_until o ticks limits tick u)
+    → IsSameRun limits kept (after_tick_until o ticks (with_trace_limit kept limits) tick s) (after_tick_until o ticks limits tick u)
 until_same None ticks limits kept tick s u same = same
 until_same (Some end) ticks limits kept tick s u same =
-    let s' : State = decided ticks (with_trace kept limits) tick (end - tick) s in
+    let s' : State = decided ticks (with_trace_limit kept limits) tick (end - tick) s in
     let u' : State = decided ticks limits tick (end - tick) u in
     subst (λ (next : Option ℕ). IsSameRun limits kept (cond (is_at tick next) s' s) (cond (is_at tick u.account.next) u' u)) (sym same.account.next)
     (either_same limits kept (is_at tick u.account.next) s s' u u' (decided_same ticks limits kept tick (end - tick) s u same) same)
 
 start_same : (ticks : OwnTicks) (limits : Limits) (image : Option (List Byte)) (input : List Arrival) (kept : ℕ)
-    → IsSameRun limits kept (start ticks (with_trace kept limits) image input) (start ticks limits image input)
+    → IsSameRun limits kept (start ticks (with_trace_limit kept limits) image input) (start ticks limits image input)
 start_same ticks limits image input kept =
     record { part = refl; account = record { next = refl; steps = refl; lost = refl; tail = λ _. sym (last-none kept) } }
 
 pub runs_same : (ticks : OwnTicks) (limits : Limits) (image : Option (List Byte)) (input : List Arrival) (kept n : ℕ)
-    → IsSameRun limits kept (alone ticks (with_trace kept limits) image input n) (alone ticks limits image input n)
+    → IsSameRun limits kept (alone ticks (with_trace_limit kept limits) image input n) (alone ticks limits image input n)
 runs_same ticks limits image input kept zero = start_same ticks limits image input kept
 runs_same ticks limits image input kept (suc n) =
-    until_same (ticks.end_at n) ticks limits kept n (alone ticks (with_trace kept limits) image input n) (alone ticks limits image input n) (runs_same ticks limits image input kept n)
+    until_same (ticks.end_at n) ticks limits kept n (alone ticks (with_trace_limit kept limits) image input n) (alone ticks limits image input n) (runs_same ticks limits image input kept n)
 
 -- a state that keeps no entry
 abbrev bare : Part → Option ℕ → ℕ → ℕ → State

@@ -17,7 +17,7 @@ use Rattle.ptk_system.proofs.Keeping.{state_alone, states_counted}
 use Rattle.ptk_system.proofs.NextTicks.{same_next}
 use Rattle.ptk_system.proofs.Runs.{is_plan}
 use Rattle.ptk_system.proofs.Views.{same_state, same_report}
-use Rattle.ptk_impact.specs.Deeper.{TraceIsAllThatDiffers, with_trace, but_trace}
+use Rattle.ptk_impact.specs.Deeper.{TraceIsAllThatDiffers, with_trace_limit, but_trace}
 use Rattle.ptk_impact.specs.declared.impact.Impact.{Impact}
 use Rattle.ptk_impact.specs.declared.impact.Impact.TheVariants.{Unchanged, UnchangedButForTrace, Changed}
 use Rattle.ptk_impact.specs.declared.subject.Subject.{Subject}
@@ -42,10 +42,10 @@ module _ (law : TraceIsAllThatDiffers) (old new : Subject) (is_old : IsConfigura
 
   -- the old partition is the new one with a trace of the old one's length
   as_other : (n : ℕ) → alone_in old.config.now old.files.now old.partition n
-      ≡ alone (own_ticks new.config.now.plan new.partition) (with_trace (section_of old).limits.trace (section_of new).limits)
+      ≡ alone (own_ticks new.config.now.plan new.partition) (with_trace_limit (section_of old).limits.trace (section_of new).limits)
       (image_in new.files.now (section_of new).image) (section_of new).input n
   as_other n =
-      let other : Limits = with_trace (section_of old).limits.trace (section_of new).limits in
+      let other : Limits = with_trace_limit (section_of old).limits.trace (section_of new).limits in
       ap (λ (ticks : OwnTicks). alone ticks (section_of old).limits (image_in old.files.now (section_of old).image) (section_of old).input n) same_ticks
       ∙ (ap (λ (limits : Limits). alone (own_ticks new.config.now.plan new.partition) limits (image_in old.files.now (section_of old).image) (section_of old).input n) same.limits
       ∙ (ap (λ (image : Option (List ℕ)). alone (own_ticks new.config.now.plan new.partition) other image (section_of old).input n) same.image

@@ -47,7 +47,7 @@ pub record IsInputChange (old new : List Arrival) (change : InputChange) : Type 
   pub is_old : change.old ≡ slice_get old change.place
   pub is_new : change.new ≡ slice_get new change.place
 
--- each difference is told, and what is told differs: nothing is told if and only if nothing differs (own)
+-- each difference is named, and what is named differs: nothing is named if and only if nothing differs (own)
 pub record AreChanges (old new : Subject) (changes : Changes) : Type 0 where
   pub same_windows : IsNone changes.windows ↔ ((t : ℕ) → Agree old.config.now.plan old.partition new.config.now.plan new.partition t)
   pub windows : IfSome changes.windows (IsFirstDifference old.config.now.plan old.partition new.config.now.plan new.partition)

@@ -8,8 +8,8 @@ use Rattle.ptk_words_model.specs.State.{State}
 use Rattle.ptk_words_model.specs.Run.{alone, last_of}
 
 -- the limits with a trace of this length (own)
-abbrev pub with_trace : ℕ → Limits → Limits
-with_trace kept limits = record limits { trace = kept }
+abbrev pub with_trace_limit : ℕ → Limits → Limits
+with_trace_limit kept limits = record limits { trace = kept }
 
 -- the state without the entries that its trace keeps (own)
 abbrev pub but_trace : State → State
@@ -19,10 +19,10 @@ but_trace s = record s { account = record (s.account) { trace = [] } }
 abbrev pub TraceIsAllThatDiffers : Type 0
 TraceIsAllThatDiffers =
     (ticks : OwnTicks) (limits : Limits) (image : Option (List Byte)) (input : List Arrival) (kept n : ℕ)
-    → but_trace (alone ticks (with_trace kept limits) image input n) ≡ but_trace (alone ticks limits image input n)
+    → but_trace (alone ticks (with_trace_limit kept limits) image input n) ≡ but_trace (alone ticks limits image input n)
 
 -- the shorter trace has the last entries of the longer one (own)
 abbrev pub ShorterTraceIsTail : Type 0
 ShorterTraceIsTail =
     (ticks : OwnTicks) (limits : Limits) (image : Option (List Byte)) (input : List Arrival) (kept n : ℕ) → kept ≤ limits.trace
-    → (alone ticks (with_trace kept limits) image input n).account.trace ≡ last_of kept (alone ticks limits image input n).account.trace
+    → (alone ticks (with_trace_limit kept limits) image input n).account.trace ≡ last_of kept (alone ticks limits image input n).account.trace

@@ -8,7 +8,7 @@ use Rattle.ptk_system.specs.Laws.{SameView}
 use Rattle.ptk_system.specs.Missing.{image_in}
 use Rattle.ptk_system.specs.Shown.{part_report}
 use Rattle.ptk_system.specs.World.{World, section_at, state_of, world_at}
-use Rattle.ptk_impact.specs.Deeper.{with_trace, but_trace}
+use Rattle.ptk_impact.specs.Deeper.{with_trace_limit, but_trace}
 use Rattle.ptk_impact.specs.declared.subject.Subject.{Subject}
 
 -- ---- a partition of a system
@@ -34,7 +34,7 @@ SeenAlike old new = SameView (world_after 0 old) old.partition (world_after 0 ne
 -- boot sees the same of both but for the length of the trace (own)
 pub record SeenAlikeButTrace (old new : Subject) : Type 0 where
   pub ends : (t : ℕ) → (own_ticks old.config.now.plan old.partition).end_at t ≡ (own_ticks new.config.now.plan new.partition).end_at t
-  pub limits : (section_of old).limits ≡ with_trace (section_of old).limits.trace (section_of new).limits
+  pub limits : (section_of old).limits ≡ with_trace_limit (section_of old).limits.trace (section_of new).limits
   pub image : image_in old.files.now (section_of old).image ≡ image_in new.files.now (section_of new).image
   pub input : (section_of old).input ≡ (section_of new).input
 

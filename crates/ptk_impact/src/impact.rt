@@ -3,7 +3,7 @@
 ghost use Rattle.std.specs.Prelude.{◌≡◌, ◌≤◌, ℕ};
 ghost use Rattle.ptk_words.specs.declared.TheConstants.{LAST_TICK};
 ghost use Rattle.ptk_config.specs.Configuration.{IsConfiguration};
-ghost use Rattle.ptk_impact.specs.Deeper.{with_trace};
+ghost use Rattle.ptk_impact.specs.Deeper.{with_trace_limit};
 ghost use Rattle.ptk_impact.specs.Impact.{IsImpact, RunsAreAlike};
 ghost use Rattle.ptk_impact.specs.Views.{IsPartition};
 
@@ -63,7 +63,7 @@ impl Impact {
         let Some(trace) = changes.limits.trace else {
             return Impact::Changed(changes);
         };
-        if before == with_trace(before.trace, after) {
+        if before == with_trace_limit(before.trace, after) {
             Impact::UnchangedButForTrace(trace)
         } else {
             Impact::Changed(changes)
@@ -72,8 +72,8 @@ impl Impact {
 }
 
 /// The limits with a trace of this length.
-fn with_trace(trace: u32, limits: Limits) -> Limits
-    ensures { result ≡ with_trace trace limits }
+fn with_trace_limit(trace: u32, limits: Limits) -> Limits
+    ensures { result ≡ with_trace_limit trace limits }
 {
     Limits { trace, ..limits }
 }
