@@ -44,11 +44,11 @@ impl<'a> Place<'a> {
 }
 
 /// A member of an object: its name, and its value, without which it is left out.
-type Member<'a> = (&'static str, Value<'a>);
+type Member<'a> = (&'static str, MemberValue<'a>);
 
 /// The value of a member, if it has one.
 #[derive(Clone, Copy)]
-enum Value<'a> {
+enum MemberValue<'a> {
     /// A number.
     Number(Option<u64>),
     /// A byte.
@@ -73,18 +73,18 @@ enum Shown<'a> {
 }
 
 /// The value of a member that has one.
-fn shown_of(value: Value<'_>) -> Option<Shown<'_>> {
+fn shown_of(value: MemberValue<'_>) -> Option<Shown<'_>> {
     match value {
-        Value::Number(Some(number)) => Some(Shown::Number(number)),
-        Value::Byte(Some(byte)) => Some(Shown::Number(u64::from(byte))),
-        Value::Word(Some(word)) => Some(Shown::Number(u64::from(word))),
-        Value::Text(Some(text)) => Some(Shown::Text(text)),
-        Value::Fact(true) => Some(Shown::Yes),
-        Value::Number(None)
-        | Value::Byte(None)
-        | Value::Word(None)
-        | Value::Text(None)
-        | Value::Fact(false) => None,
+        MemberValue::Number(Some(number)) => Some(Shown::Number(number)),
+        MemberValue::Byte(Some(byte)) => Some(Shown::Number(u64::from(byte))),
+        MemberValue::Word(Some(word)) => Some(Shown::Number(u64::from(word))),
+        MemberValue::Text(Some(text)) => Some(Shown::Text(text)),
+        MemberValue::Fact(true) => Some(Shown::Yes),
+        MemberValue::Number(None)
+        | MemberValue::Byte(None)
+        | MemberValue::Word(None)
+        | MemberValue::Text(None)
+        | MemberValue::Fact(false) => None,
     }
 }
 
@@ -300,14 +300,14 @@ fn stop_members<'a>(
     instruction: Option<&'a str>,
 ) -> [Member<'a>; 8] {
     [
-        ("kind", Value::Text(Some(cause_word(stop.cause)))),
-        ("tick", Value::Number(Some(stop.step.tick.ticks()))),
-        ("thread", Value::Byte(Some(stop.step.thread.number()))),
-        ("pc", Value::Word(Some(stop.step.pc))),
-        ("symbol", Value::Text(place.symbol)),
-        ("offset", Value::Word(place.offset)),
-        ("instruction", Value::Text(instruction)),
-        ("address", Value::Word(stop.address)),
+        ("kind", MemberValue::Text(Some(cause_word(stop.cause)))),
+        ("tick", MemberValue::Number(Some(stop.step.tick.ticks()))),
+        ("thread", MemberValue::Byte(Some(stop.step.thread.number()))),
+        ("pc", MemberValue::Word(Some(stop.step.pc))),
+        ("symbol", MemberValue::Text(place.symbol)),
+        ("offset", MemberValue::Word(place.offset)),
+        ("instruction", MemberValue::Text(instruction)),
+        ("address", MemberValue::Word(stop.address)),
     ]
 }
 
@@ -366,26 +366,29 @@ fn push_thread(
     let thread = &facts.thread;
     let (policy, assigned) = (policy_name(thread.policy), thread.priority.level());
     let members = [
-        ("thread", Value::Byte(Some(facts.number.number()))),
-        ("activity", Value::Text(Some(target.activity))),
-        ("since", Value::Number(Some(facts.history.since))),
-        ("mutex", Value::Byte(target.mutex)),
-        ("owner", Value::Byte(owner_number(facts))),
-        ("mutex_type", Value::Text(mutex.kind)),
-        ("mutex_protocol", Value::Text(mutex.protocol)),
-        ("mutex_ceiling", Value::Byte(mutex.ceiling)),
-        ("condition", Value::Byte(target.condition)),
-        ("joins", Value::Byte(target.joins)),
-        ("deadline", Value::Number(target.deadline)),
-        ("policy", Value::Text(Some(policy))),
-        ("assigned_priority", Value::Byte(Some(assigned))),
-        ("effective_priority", Value::Byte(Some(facts.effective))),
-        ("pc", Value::Word(pc)),
-        ("symbol", Value::Text(place.symbol)),
-        ("offset", Value::Word(place.offset)),
-        ("stack_pointer", Value::Word(stack_pointer)),
-        ("least_stack_pointer", Value::Word(least)),
-        ("cancel_pending", Value::Fact(facts.is_cancel_pending)),
+        ("thread", MemberValue::Byte(Some(facts.number.number()))),
+        ("activity", MemberValue::Text(Some(target.activity))),
+        ("since", MemberValue::Number(Some(facts.history.since))),
+        ("mutex", MemberValue::Byte(target.mutex)),
+        ("owner", MemberValue::Byte(owner_number(facts))),
+        ("mutex_type", MemberValue::Text(mutex.kind)),
+        ("mutex_protocol", MemberValue::Text(mutex.protocol)),
+        ("mutex_ceiling", MemberValue::Byte(mutex.ceiling)),
+        ("condition", MemberValue::Byte(target.condition)),
+        ("joins", MemberValue::Byte(target.joins)),
+        ("deadline", MemberValue::Number(target.deadline)),
+        ("policy", MemberValue::Text(Some(policy))),
+        ("assigned_priority", MemberValue::Byte(Some(assigned))),
+        (
+            "effective_priority",
+            MemberValue::Byte(Some(facts.effective)),
+        ),
+        ("pc", MemberValue::Word(pc)),
+        ("symbol", MemberValue::Text(place.symbol)),
+        ("offset", MemberValue::Word(place.offset)),
+        ("stack_pointer", MemberValue::Word(stack_pointer)),
+        ("least_stack_pointer", MemberValue::Word(least)),
+        ("cancel_pending", MemberValue::Fact(facts.is_cancel_pending)),
     ];
     push_members(alloc, out, &members)
 }

@@ -134,13 +134,13 @@ impl Stop {
             step,
             cpu: thread.cpu,
             statement,
-            address: address_of(cause, &thread.cpu, step.word),
+            address: stop_address(cause, &thread.cpu, step.word),
         }))
     }
 }
 
 /// The address for which the instruction was not carried out, None of a break.
-fn address_of(cause: Cause, cpu: &Cpu, word: u32) -> Option<u32> {
+fn stop_address(cause: Cause, cpu: &Cpu, word: u32) -> Option<u32> {
     match cause {
         Cause::Break => None,
         Cause::Fault(kind) => refused_address(kind, cpu, word),

@@ -16,7 +16,7 @@ use std::alloc::{AllocError, Global};
 use std::fmt::Write;
 
 /// The names of the registers, by number (RISC-V 25).
-const REGISTERS: [&str; 32] = [
+const REGISTER_NAMES: [&str; 32] = [
     "zero", "ra", "sp", "gp", "tp", "t0", "t1", "t2", "s0", "s1", "a0", "a1", "a2", "a3", "a4",
     "a5", "a6", "a7", "s2", "s3", "s4", "s5", "s6", "s7", "s8", "s9", "s10", "s11", "t3", "t4",
     "t5", "t6",
@@ -93,7 +93,7 @@ fn push_address(out: &mut String, stop: &Stop) -> Result<(), AllocError> {
 
 /// Appends the registers, some in a line.
 fn push_registers(out: &mut String, cpu: &Cpu) -> Result<(), AllocError> {
-    for (number, name) in REGISTERS.iter().enumerate() {
+    for (number, name) in REGISTER_NAMES.iter().enumerate() {
         let value = cpu.register(number as u32);
         let end = if (number + 1) % REGISTERS_IN_LINE == 0 {
             "\n"
