@@ -1,18 +1,19 @@
 //! What is read of a system for an explanation.
 
 ghost use Rattle.std.specs.Prelude.{◌<◌, ◌≤◌, length};
+ghost use Rattle.ptk_words.specs.declared.TheConstants.{THREAD_LIMIT};
 
 use crate::history::History;
-use crate::refusal::refused_address;
+use crate::refusal::{WORD_BYTES, refused_address};
 use ptk_disasm::push_word_statement;
 use ptk_main_runs::{Activity, MutexState, System};
 use ptk_words::{Cause, Cpu, Entry, FaultKind, MutexNo, Owner, PartId, Phase, Thread, ThreadNo};
 use std::alloc::{AllocError, Global};
 
-/// How many numbers of threads a partition has, at most 32.
+/// How many numbers of threads a partition has, at most `THREAD_LIMIT`.
 pub(crate) fn thread_count(system: &System<'_>, p: PartId) -> usize
     requires { p < length system.now.config.sections }
-    ensures { result ≤ 32 }
+    ensures { result ≤ THREAD_LIMIT }
 {
     system.tables().threads().part(p).len()
 }
@@ -151,7 +152,7 @@ fn stop_address(cause: Cause, cpu: &Cpu, word: u32) -> Option<u32> {
 fn is_fetched(cause: Cause, pc: u32) -> bool {
     match cause {
         Cause::Fault(FaultKind::Fetch) => false,
-        Cause::Break | Cause::Fault(_) => pc % 4 == 0,
+        Cause::Break | Cause::Fault(_) => pc % WORD_BYTES == 0,
     }
 }
 

@@ -9,7 +9,7 @@ use ptk_rv32i_code::{Instr, decode};
 use ptk_words::{Cpu, FaultKind};
 
 /// The bytes of a word (RISC-V 1.5).
-const WORD_BYTES: u32 = 4;
+pub(crate) const WORD_BYTES: u32 = 4;
 
 /// The address for which an instruction was not carried out: the pc where it was not fetched, the address of a load or
 /// a store, the target of a jump; None of a word that is no instruction. `cpu` is the thread's, which a fault leaves as
