@@ -29,7 +29,7 @@ pub returns-clause-on : goal.returns-clause-on
 returns-clause-on c = λ on.
     let next = c.next.ensures
     ∙ (ap (λ (a : KeptAccount). a.account.next) c.count.ensures
-    ∙ spent_next c.next_turn.result.0 c.index_mut-account.result.now.kept (c.ticks.result - c.ticks-2.result) c.args.spent (part_at c.args.p c.self.inside.tables).last c.index_mut-account.result.now.account) in
+    ∙ spent_next c.next_turn.result.0 c.index_mut-account.result.now.capacity (c.ticks.result - c.ticks-2.result) c.args.spent (part_at c.args.p c.self.inside.tables).last c.index_mut-account.result.now.account) in
     let later : c.args.turn.start + 1 ≤ c.coming.result.start =
     begins_from (c.args.turn.start + 1) c.args.from c.args.to c.next_turn.result.0 c.coming.result (omega (arith, on)) (omega (arith, c.requires.due)) c.next_turn.ensures.from (λ lt. sym next ∙ c.coming.ensures.due lt) in
     omega (arith, later)
@@ -38,7 +38,7 @@ pub returns-clause-walk : goal.returns-clause-walk
 returns-clause-walk c =
     let next = c.next.ensures
     ∙ (ap (λ (a : KeptAccount). a.account.next) c.count.ensures
-    ∙ spent_next c.next_turn.result.0 c.index_mut-account.result.now.kept (c.ticks.result - c.ticks-2.result) c.args.spent (part_at c.args.p c.self.inside.tables).last c.index_mut-account.result.now.account) in
+    ∙ spent_next c.next_turn.result.0 c.index_mut-account.result.now.capacity (c.ticks.result - c.ticks-2.result) c.args.spent (part_at c.args.p c.self.inside.tables).last c.index_mut-account.result.now.account) in
     at_coming c.args.plan.now c.args.p c.args.to c.next_turn.result.1 c.next_turn.result.0 c.next_turn.new.walk c.coming.result c.next_turn.ensures.walk (λ less. sym next ∙ c.coming.ensures.due less) c.coming.ensures.end
 
 pub returns-clause-gone : goal.returns-clause-gone
@@ -53,7 +53,7 @@ returns-clause-gone c = λ s same made free.
     let put = account_put c.args.p c.index.result c.self.inside.accounts.items c.count.new.self c.index.ensures lt in
     let next = c.next.ensures
     ∙ (ap (λ (a : KeptAccount). a.account.next) c.count.ensures
-    ∙ spent_next c.next_turn.result.0 c.index_mut-account.result.now.kept (c.ticks.result - c.ticks-2.result) c.args.spent (part_at c.args.p c.self.inside.tables).last c.index_mut-account.result.now.account) in
+    ∙ spent_next c.next_turn.result.0 c.index_mut-account.result.now.capacity (c.ticks.result - c.ticks-2.result) c.args.spent (part_at c.args.p c.self.inside.tables).last c.index_mut-account.result.now.account) in
     let here : (account_at c.args.p (record { kept = c.self.inside.tables; accounts = c.self.inside.accounts.items })).account ≡ s.account = subst (λ (w : Whole). (account_at c.args.p w).account ≡ s.account) (sym c.self.view_is) same in
     let done : HasDecided (limits_at c.args.p c.self.inside.tables) c.args.turn.start (c.args.turn.end - c.args.turn.start) c.args.spent s.part (part_at c.args.p c.self.inside.tables)
     = subst (λ (w : Whole). HasDecided (limits_at c.args.p w.kept) c.args.turn.start (c.args.turn.end - c.args.turn.start) c.args.spent s.part (part_at c.args.p w.kept)) (sym c.self.view_is) made in
@@ -66,9 +66,9 @@ returns-clause-gone c = λ s same made free.
     let le : c.args.from ≤ c.args.from = omega arith in
     let room : c.ticks.result - c.ticks-2.result ≡ c.args.turn.end - c.args.turn.start = cc in
     let counted : c.count.new.self
-    ≡ record (get_or c.self.inside.accounts.items c.args.p no_account) { account = spent_account c.next_turn.result.0 (get_or c.self.inside.accounts.items c.args.p no_account).kept (c.args.turn.end - c.args.turn.start) c.args.spent (part_at c.args.p c.self.inside.tables).last (get_or c.self.inside.accounts.items c.args.p no_account).account }
+    ≡ record (get_or c.self.inside.accounts.items c.args.p no_account) { account = spent_account c.next_turn.result.0 (get_or c.self.inside.accounts.items c.args.p no_account).capacity (c.args.turn.end - c.args.turn.start) c.args.spent (part_at c.args.p c.self.inside.tables).last (get_or c.self.inside.accounts.items c.args.p no_account).account }
     = subst (λ (a : KeptAccount). c.count.new.self ≡ record a { account = spent_account c.next_turn.result.0 a.capacity (c.args.turn.end - c.args.turn.start) c.args.spent (part_at c.args.p c.self.inside.tables).last a.account }) account
-    (subst (λ (r : ℕ). c.count.new.self ≡ record c.index_mut-account.result.now { account = spent_account c.next_turn.result.0 c.index_mut-account.result.now.kept r c.args.spent (part_at c.args.p c.self.inside.tables).last c.index_mut-account.result.now.account }) room c.count.ensures) in
+    (subst (λ (r : ℕ). c.count.new.self ≡ record c.index_mut-account.result.now { account = spent_account c.next_turn.result.0 c.index_mut-account.result.now.capacity r c.args.spent (part_at c.args.p c.self.inside.tables).last c.index_mut-account.result.now.account }) room c.count.ensures) in
     let whole : IsWhole (kept_before c.args.p s c.self.inside.tables) c.self.inside.accounts.items = part_whole c.args.p s.part c.self.inside.tables (kept_before c.args.p s c.self.inside.tables) c.self.inside.accounts.items c.self.invariant refl in
     subst (λ (w : Whole). record { kept = c.self.inside.tables; accounts = set c.self.inside.accounts.items c.index.result c.count.new.self }
     ≡ put_state c.args.p (after_ticks (own_ticks c.args.plan.now c.args.p) (limits_at c.args.p w.kept) c.args.turn.start (c.coming.result.start - c.args.turn.start) s) w) c.self.view_is

@@ -74,7 +74,7 @@ returns-clause-gone c =
     let later : c.run_quiet-reached.result.tick ≤ c.coming.result.start =
     begins_from c.run_quiet-reached.result.tick c.run_quiet-reached.result.tick c.args.to _ c.coming.result (omega arith) (omega (arith, c.run_quiet-reached.ensures.within, c.requires.within)) c.turn_on.ensures.from (λ less. sym next ∙ c.coming.ensures.due less) in
     let row : c.count_row-2.new.self ≡ with_row_of c.turn_on.result.0 c.run_quiet-reached.result.steps c.run_quiet-reached.new.trace (kept_account_of c.account.inside) =
-    let Q : KeptAccount → Type 0 = λ (a : KeptAccount). c.count_row-2.new.self ≡ record { account = record { next = c.turn_on.result.0; steps = a.account.steps + c.run_quiet-reached.result.steps; lost = a.account.lost; trace = a.account.trace }; kept = a.kept } in
+    let Q : KeptAccount → Type 0 = λ (a : KeptAccount). c.count_row-2.new.self ≡ record { account = record { next = c.turn_on.result.0; steps = a.account.steps + c.run_quiet-reached.result.steps; lost = a.account.lost; trace = a.account.trace }; capacity = a.capacity } in
     elim c.else-reached.branch [ else-reached-via-then-reached+else-ticks w ↦ subst Q w.account-is c.count_row-2.ensures | else-reached-via-else-reached w ↦ subst Q w.account-is c.count_row-2.ensures ] in
     (counted_up (own_ticks c.args.plan.now c.args.p) c.args.p c.args.turn.start c.run_quiet-reached.result.tick c.coming.result.start c.args.self.now _
     (subst (λ (w : Whole). IsWhole w.kept w.accounts) c.self.view_is c.self.invariant) c.requires.partition (omega (arith, c.run_quiet-reached.ensures.from)) later
@@ -119,7 +119,7 @@ returns-clause-steady c =
     let later : c.run_quiet-reached.result.tick ≤ c.coming.result.start =
     begins_from c.run_quiet-reached.result.tick c.run_quiet-reached.result.tick c.args.to _ c.coming.result (omega arith) (omega (arith, c.run_quiet-reached.ensures.within, c.requires.within)) c.turn_on.ensures.from (λ less. sym next ∙ c.coming.ensures.due less) in
     let row : c.count_row-2.new.self ≡ with_row_of c.turn_on.result.0 c.run_quiet-reached.result.steps c.run_quiet-reached.new.trace (kept_account_of c.account.inside) =
-    let Q : KeptAccount → Type 0 = λ (a : KeptAccount). c.count_row-2.new.self ≡ record { account = record { next = c.turn_on.result.0; steps = a.account.steps + c.run_quiet-reached.result.steps; lost = a.account.lost; trace = a.account.trace }; kept = a.kept } in
+    let Q : KeptAccount → Type 0 = λ (a : KeptAccount). c.count_row-2.new.self ≡ record { account = record { next = c.turn_on.result.0; steps = a.account.steps + c.run_quiet-reached.result.steps; lost = a.account.lost; trace = a.account.trace }; capacity = a.capacity } in
     elim c.else-reached.branch [ else-reached-via-then-reached+else-ticks w ↦ subst Q w.account-is c.count_row-2.ensures | else-reached-via-else-reached w ↦ subst Q w.account-is c.count_row-2.ensures ] in
     (counted_up (own_ticks c.args.plan.now c.args.p) c.args.p c.args.turn.start c.run_quiet-reached.result.tick c.coming.result.start c.args.self.now _
     (subst (λ (w : Whole). IsWhole w.kept w.accounts) c.self.view_is c.self.invariant) c.requires.partition (omega (arith, c.run_quiet-reached.ensures.from)) later
