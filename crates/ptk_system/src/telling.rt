@@ -145,7 +145,7 @@ impl<'a> System<'a> {
     #[tactic(auto, using(crate::proofs::Runs::traces))]
     pub fn trace(&self, p: PartId) -> &Trace
         requires { p < length self.now.config.sections }
-        ensures { result.now ≡ record { kept = (section_at self.now.config p).limits.trace; entries = (state_of self.now p).account.trace } }
+        ensures { result.now ≡ record { capacity = (section_at self.now.config p).limits.trace; entries = (state_of self.now p).account.trace } }
     {
         self.kept().account(p).trace()
     }
