@@ -86,15 +86,19 @@ pub fn guest_of(alloc: Global, parts: &[&str], source: &[&str]) -> Option<(Confi
 /// The report after this many ticks, None where there is none.
 pub fn report_of(alloc: Global, config: &Config, files: &Files, ticks: u64) -> Option<Vec<u8>> {
     let mut out = Vec::new(alloc);
-    run_with(alloc, config, files, tick_of(ticks), &mut out).ok()?;
-    Some(out)
+    match run_with(alloc, config, files, tick_of(ticks), &mut out) {
+        Ok(()) => Some(out),
+        Err(_) => None,
+    }
 }
 
 // The trace of p after this many ticks, None where there is none.
 fn trace_of(alloc: Global, config: &Config, files: &Files, ticks: u64) -> Option<Vec<u8>> {
     let mut out = Vec::new(alloc);
-    trace_with(alloc, config, files, tick_of(ticks), "p", &mut out).ok()?;
-    Some(out)
+    match trace_with(alloc, config, files, tick_of(ticks), "p", &mut out) {
+        Ok(()) => Some(out),
+        Err(_) => None,
+    }
 }
 
 // Whether there are bytes, and they are those of the text that is wanted.
