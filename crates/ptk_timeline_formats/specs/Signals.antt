@@ -3,6 +3,7 @@ use Rattle.std.specs.Prelude.{ℕ, nat_lt, ◌+◌, ◌-◌, ◌*◌, ◌/◌, �
 use Rattle.std.specs.Fmt.{digits}
 use Rattle.std.specs.List.{concat}
 use Rattle.ptk_words.specs.Names.{newline}
+use Rattle.ptk_words.specs.declared.TheConstants.{THREAD_LIMIT}
 use Rattle.ptk_main_runs.specs.PartStatus.{PartStatus}
 use Rattle.ptk_main_runs.specs.PartStatus.TheVariants as status
 use Rattle.ptk_words.specs.declared.threads.Wait.{Wait}
@@ -73,13 +74,17 @@ abbrev pub number_or_none : Option ℕ → ℕ
 number_or_none None = 0
 number_or_none (Some number) = number
 
--- the line of what a thread does; a partition has 67 signals (own)
+-- how many signals a partition has: three, and two of each of the most threads that it can have (own)
+abbrev pub SIGNALS : ℕ
+SIGNALS = 3 + 2 * THREAD_LIMIT
+
+-- the line of what a thread does (own)
 abbrev pub state_line : ℕ → ℕ → Shown → List ℕ
-state_line p t shown = vector_line (state_number shown.doing) (p * 67 + 3 + 2 * (t - 1))
+state_line p t shown = vector_line (state_number shown.doing) (p * SIGNALS + 3 + 2 * (t - 1))
 
 -- the line of a thread's effective priority, whose signal is behind that of what the thread does (own)
 abbrev pub priority_line : ℕ → ℕ → Shown → List ℕ
-priority_line p t shown = vector_line (number_or_none shown.priority) (p * 67 + 4 + 2 * (t - 1))
+priority_line p t shown = vector_line (number_or_none shown.priority) (p * SIGNALS + 4 + 2 * (t - 1))
 
 -- the lines of a thread that was shown so: of what is another than before (own)
 abbrev pub thread_lines : ℕ → ℕ → Shown → Shown → List ℕ
@@ -89,10 +94,10 @@ thread_lines p t before shown =
 
 -- the lines of the values that change (own)
 abbrev pub value_lines : ℕ → Change → List ℕ
-value_lines p WindowBegins = bit_line 1 (p * 67)
-value_lines p (WindowEnds since) = bit_line 0 (p * 67)
-value_lines p (Status status) = vector_line (status_number status) (p * 67 + 1)
-value_lines p (Runner thread) = vector_line (number_or_none thread) (p * 67 + 2)
+value_lines p WindowBegins = bit_line 1 (p * SIGNALS)
+value_lines p (WindowEnds since) = bit_line 0 (p * SIGNALS)
+value_lines p (Status status) = vector_line (status_number status) (p * SIGNALS + 1)
+value_lines p (Runner thread) = vector_line (number_or_none thread) (p * SIGNALS + 2)
 value_lines p (First t shown start) = state_line p t shown.now ++ priority_line p t shown.now
 value_lines p (Next t kept shown) = thread_lines p t kept.now.shown shown.now
 value_lines p (Woken by t) = []

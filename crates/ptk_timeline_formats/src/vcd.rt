@@ -2,7 +2,7 @@
 
 ghost use Rattle.std.specs.Prelude.{◌≡◌, ◌+◌, ◌-◌, ◌*◌, OnOk, Some};
 ghost use Rattle.std.specs.Io.KnownBytes.{Appends};
-ghost use Rattle.ptk_timeline_formats.specs.Signals.{bit_line, identifier, is_signal, number_or_none, status_number, thread_lines, value_lines, vector_line};
+ghost use Rattle.ptk_timeline_formats.specs.Signals.{SIGNALS, bit_line, identifier, is_signal, number_or_none, status_number, thread_lines, value_lines, vector_line};
 
 use crate::change::Change;
 use crate::shown::Shown;
@@ -34,35 +34,35 @@ struct Signal(usize);
 impl Signal {
     /// The partition's window, 1 bit.
     fn window(p: PartId) -> Signal
-        ensures { result.0 ≡ p * 67 }
+        ensures { result.0 ≡ p * SIGNALS }
     {
         Signal(p.index() * SIGNALS)
     }
 
     /// The partition's status, 3 bits.
     fn status(p: PartId) -> Signal
-        ensures { result.0 ≡ p * 67 + 1 }
+        ensures { result.0 ≡ p * SIGNALS + 1 }
     {
         Signal(p.index() * SIGNALS + 1)
     }
 
     /// The partition's running thread, 6 bits.
     fn runner(p: PartId) -> Signal
-        ensures { result.0 ≡ p * 67 + 2 }
+        ensures { result.0 ≡ p * SIGNALS + 2 }
     {
         Signal(p.index() * SIGNALS + 2)
     }
 
     /// The state of the thread of a number, 4 bits.
     fn state(p: PartId, number: u8) -> Signal
-        ensures { result.0 ≡ p * 67 + 3 + 2 * (number - 1) }
+        ensures { result.0 ≡ p * SIGNALS + 3 + 2 * (number - 1) }
     {
         Signal(p.index() * SIGNALS + PART_SIGNALS + 2 * usize::from(number.saturating_sub(1)))
     }
 
     /// The effective priority of the thread of a number, 6 bits.
     fn priority(p: PartId, number: u8) -> Signal
-        ensures { result.0 ≡ p * 67 + 4 + 2 * (number - 1) }
+        ensures { result.0 ≡ p * SIGNALS + 4 + 2 * (number - 1) }
     {
         Signal(p.index() * SIGNALS + PART_SIGNALS + 2 * usize::from(number.saturating_sub(1)) + 1)
     }
