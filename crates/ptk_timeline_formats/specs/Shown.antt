@@ -1,5 +1,6 @@
 -- What a thread of a partition is shown as.
 use Rattle.std.specs.Prelude.{◌≡◌, ℕ, ◌+◌, ◌<◌, Bool, false, ◌==◌, List, Option, Some, None, option_map, if◌then◌else◌, length, slice_index_or}
+use Rattle.ptk_words.specs.declared.TheConstants.{THREAD_LIMIT}
 use Rattle.ptk_words.specs.declared.threads.Thread.{Thread}
 use Rattle.ptk_words_model.specs.State.{Part}
 use Rattle.ptk_words_model.specs.Priority.{effective_priority, thread_at}
@@ -35,5 +36,5 @@ shown_in is_stepping t s = record {
 
 -- of the threads of a partition in a state, by number from 1, each is kept as it is shown while the step takes up its ticks
 abbrev pub AreShown : Option Step → Part → List ShownSince → Type 0
-AreShown step s threads = (place : ℕ) (default : ShownSince) → place < length threads → place < 32
+AreShown step s threads = (place : ℕ) (default : ShownSince) → place < length threads → place < THREAD_LIMIT
     → (slice_index_or threads place default).shown ≡ shown_in (is_step_of step (place + 1)) (place + 1) s

@@ -202,7 +202,7 @@ impl Board {
 }
 
 /// How many partitions a system has at most.
-const PARTS: usize = 8;
+pub(crate) const PARTS: usize = 8;
 
 /// The first tick of the next window after a tick in none, the last tick where that is later.
 fn next_start(config: &Config, tick: u64, to: u64) -> u64

@@ -1,5 +1,6 @@
 //! The Trace Event Format.
 
+use crate::board::PARTS;
 use crate::change::{Change, ShownSince};
 use crate::shown::{Doing, Shown};
 use ptk_config::{Config, Section};
@@ -170,7 +171,7 @@ pub(crate) fn put_events_head<W: Write>(
 ) -> Result<(), PutFault> {
     let mut before = "{\"displayTimeUnit\":\"ns\",\"traceEvents\":[\n";
     for (place, section) in config.sections().iter().enumerate() {
-        let p = PartId::new((place % 8) as u8);
+        let p = PartId::new((place % PARTS) as u8);
         let Track { process, thread } = Track::windows(p);
         let name = serde_json::to_string(alloc, &section.name())?;
         write!(

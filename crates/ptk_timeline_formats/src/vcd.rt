@@ -4,6 +4,7 @@ ghost use Rattle.std.specs.Prelude.{◌≡◌, ◌+◌, ◌-◌, ◌*◌, OnOk, 
 ghost use Rattle.std.specs.Io.KnownBytes.{Appends};
 ghost use Rattle.ptk_timeline_formats.specs.Signals.{SIGNALS, bit_line, identifier, is_signal, number_or_none, status_number, thread_lines, value_lines, vector_line};
 
+use crate::board::PARTS;
 use crate::change::Change;
 use crate::shown::Shown;
 use ptk_config::{Config, Section};
@@ -83,7 +84,7 @@ impl fmt::Display for Signal {
 pub(crate) fn put_vcd_head<W: Write>(config: &Config, from: u64, out: &mut W) -> io::Result<()> {
     out.write_all(b"$version ptk timeline $end\n$timescale 1 us $end\n")?;
     for (place, section) in config.sections().iter().enumerate() {
-        put_scope(PartId::new((place % 8) as u8), section, out)?;
+        put_scope(PartId::new((place % PARTS) as u8), section, out)?;
     }
     writeln!(out, "$enddefinitions $end\n#{from}\n$dumpvars")
 }
