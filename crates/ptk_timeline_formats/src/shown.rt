@@ -36,6 +36,23 @@ pub(crate) struct Label {
     pub(crate) word: &'static str,
 }
 
+impl Label {
+    /// The number and the word of a wait.
+    fn of_wait(wait: &Wait) -> Label
+        ensures { result.number ≡ wait_number wait.now }
+    {
+        let (number, word) = match wait {
+            Wait::InputWait => (4, "console"),
+            Wait::SleepWait(_) => (5, "sleep"),
+            Wait::JoinWait(_) => (6, "join"),
+            Wait::MutexWait(_, _) => (7, "mutex"),
+            Wait::ConditionWait(_, _, _) => (8, "condition"),
+            Wait::RelockWait(_, _) => (9, "relock"),
+        };
+        Label { number, word }
+    }
+}
+
 impl Doing {
     /// Its word and number.
     pub(crate) fn label(&self) -> Label
@@ -46,25 +63,11 @@ impl Doing {
             Doing::Running => (1, "running"),
             Doing::Suspended => (2, "suspended"),
             Doing::Ready => (3, "ready"),
-            Doing::Blocked(wait) => wait_label(wait),
+            Doing::Blocked(wait) => return Label::of_wait(wait),
             Doing::Ended => (10, "ended"),
             Doing::Halted => (11, "halted"),
         };
         Label { number, word }
-    }
-}
-
-/// The number and the word of a wait.
-fn wait_label(wait: &Wait) -> (u8, &'static str)
-    ensures { result.0 ≡ wait_number wait.now }
-{
-    match wait {
-        Wait::InputWait => (4, "console"),
-        Wait::SleepWait(_) => (5, "sleep"),
-        Wait::JoinWait(_) => (6, "join"),
-        Wait::MutexWait(_, _) => (7, "mutex"),
-        Wait::ConditionWait(_, _, _) => (8, "condition"),
-        Wait::RelockWait(_, _) => (9, "relock"),
     }
 }
 
