@@ -1,4 +1,5 @@
 pub mod Shown
+pub mod Steps
 pub mod Faults
 pub mod Signals
 pub use Rattle.ptk_main_runs.specs.Missing

@@ -4,6 +4,8 @@
 //!
 //! - What is kept of each thread at a change is what the system shows of it (`shown` of `show_threads`: `AreShown`,
 //!   `shown_in`); ticks never fall (`from`, `within` of `Sheet::put`).
+//! - The step that takes up a partition's ticks is its last one, where it made one since the last look, up to the next
+//!   decision or the window's end (`step` of `Step::since`: `step_since`).
 //! - The refusals are the definition's (`order` to `silent` of `dump_with`).
 //! - What a Value Change Dump has of changes is the definition's, tick by tick (`dump` of `Sheet::put_each`). What is
 //!   before the first of them is tested, and so are the bytes of trace events.

@@ -1,9 +1,10 @@
 //! The step of a partition that takes up its ticks.
 
-ghost use Rattle.std.specs.Prelude.{◌≡◌, ◌+◌, ◌<◌, ◌≤◌, IfSome, length, nat_lt, None};
+ghost use Rattle.std.specs.Prelude.{◌≡◌, ◌+◌, ◌<◌, ◌≤◌, IfSome, length};
 ghost use Rattle.ptk_words.specs.declared.TheConstants.{LAST_TICK};
 ghost use Rattle.ptk_main_runs.specs.World.{state_of};
 ghost use Rattle.ptk_timeline_formats.specs.Shown.{is_step_of};
+ghost use Rattle.ptk_timeline_formats.specs.Steps.{step_end, step_since};
 
 use ptk_main_runs::System;
 use ptk_words::{PartId, ThreadNo};
@@ -51,7 +52,7 @@ impl Step {
     ) -> Option<Step>
         requires partition { p < length system.now.config.sections }
         requires within { tick < end }
-        ensures none { (state_of system.now p).account.steps ≤ steps → result ≡ None }
+        ensures step { result ≡ step_since steps tick end (state_of system.now p) }
         ensures from { IfSome result (λ step. tick < step.until) }
         ensures to { IfSome result (λ step. step.until ≤ end) }
     {
@@ -68,6 +69,7 @@ impl Step {
 fn step_end(system: &System<'_>, p: PartId, tick: u64, end: u64) -> u64
     requires partition { p < length system.now.config.sections }
     requires within { tick < end }
+    ensures end { result ≡ step_end tick end (state_of system.now p) }
     ensures from { tick < result }
     ensures to { result ≤ end }
 {
