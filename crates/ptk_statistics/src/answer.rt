@@ -1,8 +1,10 @@
 //! The answers to `stats`, as tables or as JSON.
 
-ghost use Rattle.std.specs.Prelude.{◌≡◌, ◌<◌, ◌≤◌, ◌↔◌, None, IsTrue, OnOk, length};
+ghost use Rattle.std.specs.Prelude.{◌≡◌, ◌≢◌, ◌<◌, ◌≤◌, ◌↔◌, None, IfErr, IsTrue, MatchResult, OnOk, length};
 ghost use Rattle.ptk_words.specs.declared.TheConstants.{LAST_TICK};
+ghost use Rattle.ptk_main_runs.specs.declared.runs.RunFault.TheVariants.{NoPartition};
 ghost use Rattle.ptk_main_runs.specs.Missing.{first_missing};
+ghost use Rattle.ptk_main_runs.specs.RunFaults.{missing_in_run};
 ghost use Rattle.ptk_statistics.specs.Asked.{IsAsked};
 
 use crate::blocks::put_block;
@@ -10,7 +12,7 @@ use crate::document::{Figures, json_of};
 use crate::part::PartStatistics;
 use crate::statistics::Statistics;
 use ptk_config::Config;
-use ptk_main_runs::{Files, PutFault, RunFault, System, part_named};
+use ptk_main_runs::{BootFault, Files, PutFault, RunFault, System, part_named};
 use ptk_words::{PartId, Tick};
 use std::alloc::Global;
 use std::io;
@@ -26,9 +28,12 @@ pub enum Form {
 }
 
 /// Boots the system of a configuration, runs it for this many ticks, at most 2^40, and writes the figures of the run in
-/// a form: those of each partition, or of the one of this name alone. A fault where no partition has the name, the
-/// system does not boot or memory is refused, or the writer fails. Nothing is written before another fault than the
-/// writer's, but for refused memory.
+/// a form: those of each partition, or of the one of this name alone. That a partition has the name is tested before
+/// the system boots.
+///
+/// A fault where no partition has the name, where the system does not boot or memory ran out, or where the writer
+/// fails. Nothing is written before another fault than the writer's, but in JSON, where memory can run out behind the
+/// first byte.
 pub fn stats_with<W: Write>(
     alloc: Global,
     config: &Config,
@@ -40,20 +45,19 @@ pub fn stats_with<W: Write>(
 ) -> Result<(), RunFault>
     requires { ticks ≤ LAST_TICK }
     ensures known { OnOk result (IsAsked config.now partition.entry) }
-    ensures missing { OnOk result (first_missing files.now config.now.sections ≡ None) }
+    ensures unknown { IfErr result (λ fault. fault ≡ NoPartition → ¬ IsAsked config.now partition.entry) }
+    ensures first { IfErr result (λ fault. ¬ IsAsked config.now partition.entry → fault ≡ NoPartition) }
+    ensures missing { MatchResult result
+        (λ _. first_missing files.now config.now.sections ≡ None)
+        (λ fault. fault ≢ NoPartition → first_missing files.now config.now.sections ≡ missing_in_run fault) }
+    ensures silent { IfErr result (λ fault. fault ≢ RunFault.Write →
+        (form ≡ Form.Json → fault ≢ RunFault.Boot BootFault.Memory) → out.new ≡ out.old) }
 {
-    if !is_known(config, partition) {
-        return Err(RunFault::NoPartition);
+    if is_known(config, partition) {
+        put_answer(alloc, config, files, ticks, partition, form, out)
+    } else {
+        Err(RunFault::NoPartition)
     }
-    let mut system = match System::boot(alloc, config, files) {
-        Ok(system) => system,
-        Err(fault) => return Err(RunFault::Boot(fault)),
-    };
-    let Ok(statistics) = Statistics::of_run(alloc, &mut system, ticks) else {
-        return Err(RunFault::from(PutFault::Memory));
-    };
-    put(form, alloc, &system, &statistics, ticks, partition, out)?;
-    Ok(())
 }
 
 /// Whether a partition has the name that is asked for, or none is asked for.
@@ -66,7 +70,39 @@ fn is_known(config: &Config, partition: Option<&str>) -> bool
     }
 }
 
-/// Writes the figures of the partitions that are asked for.
+/// Writes the figures of a run.
+fn put_answer<W: Write>(
+    alloc: Global,
+    config: &Config,
+    files: &Files,
+    ticks: Tick,
+    partition: Option<&str>,
+    form: Form,
+    out: &mut W,
+) -> Result<(), RunFault>
+    requires { ticks ≤ LAST_TICK }
+    ensures known { IfErr result (λ fault. fault ≢ NoPartition) }
+    ensures missing { MatchResult result
+        (λ _. first_missing files.now config.now.sections ≡ None)
+        (λ fault. first_missing files.now config.now.sections ≡ missing_in_run fault) }
+    ensures silent { IfErr result (λ fault. fault ≢ RunFault.Write →
+        (form ≡ Form.Json → fault ≢ RunFault.Boot BootFault.Memory) → out.new ≡ out.old) }
+{
+    let mut system = match System::boot(alloc, config, files) {
+        Ok(system) => system,
+        Err(fault) => return Err(RunFault::Boot(fault)),
+    };
+    let Ok(statistics) = Statistics::of_run(alloc, &mut system, ticks) else {
+        return Err(RunFault::Boot(BootFault::Memory));
+    };
+    match put(form, alloc, &system, &statistics, ticks, partition, out) {
+        Ok(()) => Ok(()),
+        Err(PutFault::Memory) => Err(RunFault::Boot(BootFault::Memory)),
+        Err(PutFault::Write) => Err(RunFault::Write),
+    }
+}
+
+/// Writes the figures of the partitions that are asked for. Memory can run out in JSON alone.
 fn put<W: Write>(
     form: Form,
     alloc: Global,
@@ -75,38 +111,63 @@ fn put<W: Write>(
     ticks: Tick,
     partition: Option<&str>,
     out: &mut W,
+) -> Result<(), PutFault>
+    ensures { IfErr result (λ fault. fault ≡ PutFault.Memory → form ≡ Form.Json) }
+{
+    match form {
+        Form::Tables => match put_tables(system, statistics, partition, out) {
+            Ok(()) => Ok(()),
+            Err(_) => Err(PutFault::Write),
+        },
+        Form::Json => put_document(alloc, system, statistics, ticks, partition, out),
+    }
+}
+
+/// Writes the tables of the partitions that are asked for.
+fn put_tables<'a, W: Write>(
+    system: &'a System<'_>,
+    statistics: &'a Statistics,
+    partition: Option<&str>,
+    out: &mut W,
+) -> io::Result<()> {
+    let parts = statistics.parts();
+    for i in 0..system.parts().min(parts.len()) {
+        if is_asked(system.config(), i, partition) {
+            put_block(&figures_of(system, i, &parts[i]), out)?;
+        }
+    }
+    Ok(())
+}
+
+/// Writes the JSON object of a run, with the partitions that are asked for.
+fn put_document<'a, W: Write>(
+    alloc: Global,
+    system: &'a System<'_>,
+    statistics: &'a Statistics,
+    ticks: Tick,
+    partition: Option<&str>,
+    out: &mut W,
 ) -> Result<(), PutFault> {
-    put_beginning(form, ticks, out)?;
+    put_beginning(ticks, out)?;
     let parts = statistics.parts();
     let mut is_first = true;
     for i in 0..system.parts().min(parts.len()) {
         if is_asked(system.config(), i, partition) {
-            put_part(form, alloc, system, i, &parts[i], is_first, out)?;
+            put_object(alloc, &figures_of(system, i, &parts[i]), is_first, out)?;
             is_first = false;
         }
     }
-    put_end(form, out)?;
+    out.write_all(b"]}\n")?;
     Ok(())
 }
 
-/// Writes what is before the partitions.
-fn put_beginning<W: Write>(form: Form, ticks: Tick, out: &mut W) -> io::Result<()> {
+/// Writes what is before the partitions in the JSON object of a run.
+fn put_beginning<W: Write>(ticks: Tick, out: &mut W) -> io::Result<()> {
     let ticks = ticks.ticks();
-    match form {
-        Form::Tables => Ok(()),
-        Form::Json => write!(
-            out,
-            "{{\"format\":\"ptk stats 1\",\"ticks\":{ticks},\"partitions\":["
-        ),
-    }
-}
-
-/// Writes what is behind the partitions.
-fn put_end<W: Write>(form: Form, out: &mut W) -> io::Result<()> {
-    match form {
-        Form::Tables => Ok(()),
-        Form::Json => out.write_all(b"]}\n"),
-    }
+    write!(
+        out,
+        "{{\"format\":\"ptk stats 1\",\"ticks\":{ticks},\"partitions\":["
+    )
 }
 
 /// Whether the partition at a place is asked for.
@@ -117,31 +178,17 @@ fn is_asked(config: &Config, place: usize, partition: Option<&str>) -> bool {
     }
 }
 
-/// Writes the figures of the partition at a place.
-fn put_part<W: Write>(
-    form: Form,
-    alloc: Global,
-    system: &System<'_>,
-    place: usize,
-    part: &PartStatistics,
-    is_first: bool,
-    out: &mut W,
-) -> Result<(), PutFault>
+/// The partition at a place with its figures.
+fn figures_of<'a>(system: &'a System<'_>, place: usize, part: &'a PartStatistics) -> Figures<'a>
     requires { place < length system.now.config.sections }
 {
     system.states_are_alone();
-    let config = system.config();
-    let sections = config.sections();
-    let figures = Figures {
+    let sections = system.config().sections();
+    Figures {
         name: sections[place].name(),
         status: system.status(PartId::new(place as u8)),
         part,
-    };
-    match form {
-        Form::Tables => put_block(&figures, out)?,
-        Form::Json => put_object(alloc, &figures, is_first, out)?,
     }
-    Ok(())
 }
 
 /// Writes the JSON object of a partition, with a comma before it where it is not the first.

@@ -6,8 +6,9 @@
 //! - `Statistics::of_run` is a run to its tick (`run`), and the counts agree with the system then (`agrees`: `Agrees`):
 //!   its steps, its lost ticks, its own ticks.
 //! - Of the figures of threads and mutexes nothing is proved but that they are safe.
-//! - Where `stats_with` succeeds, the partition that is asked for is there (`known`), and no section's file is missing
-//!   (`missing`).
+//! - `stats_with` refuses a partition that no section names, and a run whose system does not boot (`known`, `unknown`,
+//!   `first`, `missing`). Nothing is written before another fault than the writer's, but in JSON where memory runs out
+//!   (`silent`).
 //! - What is written is tested.
 //!
 //! The run goes on by single decisions where a call or a change may come, by rows of plain steps between, and over
@@ -28,7 +29,7 @@ mod words;
 
 pub use answer::{Form, stats_with};
 pub use part::PartStatistics;
-pub use ptk_main_runs::{Files, PartStatus, System};
+pub use ptk_main_runs::{Files, PartStatus, RunFault, System};
 pub use ptk_statistics_figures::{
     CallCount, Counted, Doing, Longest, MutexStatistics, Span, Spread, ThreadStatistics,
 };
