@@ -13,9 +13,10 @@
 //!
 //! The run goes on by single decisions where a call or a change may come, by rows of plain steps between, and over
 //! ticks at which nothing is due at once. What each figure of a thread and of a mutex says is tested, and so are the
-//! bytes (`ptk_main_tests`). Nothing is written before a fault but the writer's own. Below are the count
-//! (`ptk_statistics_figures`), the system, and the faults of a run (`ptk_main_runs`); above is what the program does
-//! with a request (`ptk_main_commands`). No clause is costly to prove.
+//! bytes (`ptk_main_tests`). Nothing is written before a fault but the writer's own and, where memory runs out while
+//! JSON is written, what is before it. Below are the count (`ptk_statistics_figures`), the system, and the faults of a
+//! run (`ptk_main_runs`); above is what the program does with a request (`ptk_main_commands`). No clause is costly to
+//! prove.
 
 mod advance;
 mod answer;
