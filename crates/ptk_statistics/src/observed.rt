@@ -14,7 +14,13 @@ use ptk_words::{
 use std::alloc::{AllocError, Global};
 
 /// How many mutexes a partition has at most.
-const MUTEXES: usize = 64;
+const MUTEX_LIMIT: usize = 64;
+
+/// Bytes of an instruction.
+const WORD: u32 = 4;
+
+/// The word of a step that fetched none.
+const NO_WORD: u32 = 0;
 
 /// A call that can give a mutex another owner.
 #[derive(Clone, Copy)]
@@ -49,7 +55,7 @@ impl Observed {
     {
         let mut threads = free_numbers(alloc, threads.min(THREAD_LIMIT) as usize)?;
         begin(threads.as_mut_slice(), system, p);
-        let mutexes = free_mutexes(alloc, (mutexes as usize).min(MUTEXES))?;
+        let mutexes = free_mutexes(alloc, (mutexes as usize).min(MUTEX_LIMIT))?;
         Ok(Observed {
             threads,
             mutexes,
@@ -330,7 +336,7 @@ fn make_call(
 
 /// The pc behind a step that is a call.
 fn pc_behind(entry: &Entry) -> u32 {
-    entry.pc.wrapping_add(4)
+    entry.pc.wrapping_add(WORD)
 }
 
 /// Whether the reply to the call that a step is, where it is one, is an error, and its thread goes on behind it.
@@ -396,7 +402,7 @@ fn look_at_stack(thread: &mut ThreadStatistics, system: &System<'_>, p: PartId, 
 fn look_at_owners(mutexes: &mut [MutexStatistics], system: &System<'_>, p: PartId, at: Moment)
     requires { p < length system.now.config.sections }
 {
-    for i in 0..mutexes.len().min(MUTEXES) {
+    for i in 0..mutexes.len().min(MUTEX_LIMIT) {
         let owner = system.owner_thread(p, MutexNo::new(i as u8 + 1));
         if mutexes[i].owner() != owner {
             mutexes[i].own_by(owner, at);
@@ -453,7 +459,7 @@ fn is_apart(system: &System<'_>, p: PartId, entry: &Entry) -> bool
 {
     let goes_on = matches!(system.status(p), PartStatus::Idle | PartStatus::Running);
     let Some(number) = call_of(system, p, entry) else {
-        return goes_on && entry.word != 0;
+        return goes_on && entry.word != NO_WORD;
     };
     goes_on
         && !matches!(
@@ -515,7 +521,9 @@ fn step_ticks(system: &System<'_>, p: PartId, tick: u64, to: u64) -> u64
     let end = match (system.status(p), system.next(p)) {
         (PartStatus::Idle | PartStatus::Running, Some(next)) => end.min(next.ticks()),
         (PartStatus::Idle | PartStatus::Running, None) => end,
-        _ => tick.saturating_add(1),
+        (PartStatus::Exited(_) | PartStatus::Stopped(_, _) | PartStatus::Refused(_), _) => {
+            tick.saturating_add(1)
+        }
     };
     end.min(to).saturating_sub(tick)
 }
