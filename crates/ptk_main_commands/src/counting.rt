@@ -1,14 +1,16 @@
 //! `stats`: the figures of a run.
 
-ghost use Rattle.std.specs.Prelude.{◌≤◌, OnOk};
+ghost use Rattle.std.specs.Prelude.{◌≡◌, ◌≤◌, None, MatchResult};
+ghost use Rattle.std.specs.Option.{option_map_or};
 ghost use Rattle.ptk_words.specs.declared.TheConstants.{LAST_TICK};
-ghost use Rattle.ptk_statistics.specs.Asked.{IsAsked};
+ghost use Rattle.ptk_main_files.specs.Parts.{part_named};
+ghost use Rattle.ptk_main_files.specs.Refusals.{IsFaultOf, missing_image, refused_trace};
 
 use ptk_config::Config;
 use ptk_main_faults::Fault;
-use ptk_main_files::{Files, config_in, end, images_of, run_fault, tell};
+use ptk_main_files::{Files, boot_fault, config_in, end, images_of, run_fault, tell};
 use ptk_main_line::{Format, StatsOptions};
-use ptk_statistics::{Form, stats_with};
+use ptk_statistics::{Form, RunFault, stats_with};
 use ptk_words::Tick;
 use std::alloc::Global;
 use std::io::Write;
@@ -55,14 +57,57 @@ fn stats_answer<'a, W: Write>(
     out: &mut W,
 ) -> Result<(), Fault<'a>>
     requires { ticks ≤ LAST_TICK }
-    ensures known { OnOk result (IsAsked config.now name.entry) }
+    ensures refused { let refusal = option_map_or (λ word. refused_trace (part_named config.now word.now) config.now files.now word.now)
+        name.entry (missing_image config.now files.now) in
+        MatchResult result (λ _. refusal ≡ None) (IsFaultOf refusal refusal) }
 {
     let form = match format {
         Format::Text => Form::Tables,
         Format::Json => Form::Json,
     };
-    match stats_with(alloc, config, files, ticks, name, form, out) {
+    match name {
+        Some(name) => stats_of_one(alloc, config, files, ticks, name, form, out),
+        None => stats_of_all(alloc, config, files, ticks, form, out),
+    }
+}
+
+// Writes the figures of the partition of this name.
+fn stats_of_one<'a, W: Write>(
+    alloc: Global,
+    config: &'a Config,
+    files: &Files,
+    ticks: Tick,
+    name: &'a str,
+    form: Form,
+    out: &mut W,
+) -> Result<(), Fault<'a>>
+    requires { ticks ≤ LAST_TICK }
+    ensures refused { let refusal = refused_trace (part_named config.now name.now) config.now files.now name.now in
+        MatchResult result (λ _. refusal ≡ None) (IsFaultOf refusal refusal) }
+{
+    match stats_with(alloc, config, files, ticks, Some(name), form, out) {
         Ok(()) => Ok(()),
-        Err(fault) => Err(run_fault(config, name.unwrap_or(""), fault)),
+        Err(fault) => Err(run_fault(config, name, fault)),
+    }
+}
+
+// Writes the figures of all partitions.
+fn stats_of_all<'a, W: Write>(
+    alloc: Global,
+    config: &'a Config,
+    files: &Files,
+    ticks: Tick,
+    form: Form,
+    out: &mut W,
+) -> Result<(), Fault<'a>>
+    requires { ticks ≤ LAST_TICK }
+    ensures refused { let refusal = missing_image config.now files.now in
+        MatchResult result (λ _. refusal ≡ None) (IsFaultOf refusal refusal) }
+{
+    match stats_with(alloc, config, files, ticks, None, form, out) {
+        Ok(()) => Ok(()),
+        Err(RunFault::Boot(fault)) => Err(boot_fault(config, fault)),
+        Err(RunFault::NoPartition) => unreachable!(),
+        Err(RunFault::Write) => Err(Fault::WriteFailed),
     }
 }

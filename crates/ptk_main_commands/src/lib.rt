@@ -4,7 +4,7 @@
 //! the status of each request (`answer_words`, `obey`), among them `timeline`, `explain` and `stats`.
 //!
 //! - A run, a trace or a picture is asked for at most 2^40 ticks (`obey`, `requires`).
-//! - `standing_answer` and `timeline_answer` promise their refusals alone, `stats_answer` that the partition is there.
+//! - `standing_answer`, `timeline_answer` and `stats_answer` promise their refusals alone.
 //! - Which files it reads is tested; which stream gets what is neither proved nor tested.
 //!
 //! Below are the other requests (`ptk_main_files`), and what this crate alone joins: the pictures (`ptk_timeline`,
