@@ -20,10 +20,11 @@ abbrev pub name_at : List Renamed → (Renamed → List ℕ) → Option (List �
 name_at renames name otherwise None = otherwise
 name_at renames name otherwise (Some place) = option_map name (slice_get renames place)
 
--- the place of the first rename to this name, and of the first from it (own)
+-- the place of the first rename to this name (own)
 abbrev pub place_to : List Renamed → List ℕ → Option ℕ
 place_to renames name = position (λ r. bytes_eq r.new name) renames
 
+-- the place of the first rename from this name (own)
 abbrev pub place_from : List Renamed → List ℕ → Option ℕ
 place_from renames name = position (λ r. bytes_eq r.old name) renames
 

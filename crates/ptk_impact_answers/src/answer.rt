@@ -6,7 +6,7 @@ ghost use Rattle.ptk_impact_answers.specs.Counts.{IsClear};
 ghost use Rattle.ptk_impact_answers.specs.Matching.{Renamed, is_asked, place_after, place_before};
 ghost use Rattle.ptk_impact_answers.specs.SameRuns.{AreSameRuns, AreSeenAlike, WasSeenAlike};
 
-use crate::comparison::{Comparison, Pair, file_of};
+use crate::comparison::{Comparison, Pair};
 use crate::form::{Form, put_alone, put_beginning, put_comparison, put_counts};
 use crate::refusal::refusal_of;
 use crate::release::Release;
@@ -239,8 +239,8 @@ impl<'a, 'f> Releases<'a, 'f> {
         let comparison = Comparison {
             old_name: old.section().name(),
             new_name: new.section().name(),
-            old_file: file_of(old.section()),
-            new_file: file_of(new.section()),
+            old_file: old.section().image(),
+            new_file: new.section().image(),
             places,
             limits,
             impact,

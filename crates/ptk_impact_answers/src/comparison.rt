@@ -1,6 +1,5 @@
 //! What stands between the old and the new partition.
 
-use ptk_config::Section;
 use ptk_impact::{Impact, LimitChange, LimitChanges};
 use ptk_words::{ImageFault, Limits};
 
@@ -18,10 +17,10 @@ pub(crate) struct Comparison<'a> {
     pub(crate) old_name: &'a str,
     /// The new name.
     pub(crate) new_name: &'a str,
-    /// The name of the file of the old image, empty where there is none.
-    pub(crate) old_file: &'a str,
-    /// The name of the file of the new image, empty where there is none.
-    pub(crate) new_file: &'a str,
+    /// The name of the file of the old image, None where there is none.
+    pub(crate) old_file: Option<&'a str>,
+    /// The name of the file of the new image, None where there is none.
+    pub(crate) new_file: Option<&'a str>,
     /// The places among the sections.
     pub(crate) places: Pair<usize>,
     /// The limits.
@@ -38,9 +37,12 @@ impl<'a> Comparison<'a> {
         self.old_name != self.new_name
     }
 
-    /// Whether both images have a file, and these have other names.
-    pub(crate) fn has_other_file(&self) -> bool {
-        !self.old_file.is_empty() && !self.new_file.is_empty() && self.old_file != self.new_file
+    /// The names of the files of both images, None where one has no file or the names are the same.
+    pub(crate) fn other_files(&self) -> Option<Pair<&'a str>> {
+        match (self.old_file, self.new_file) {
+            (Some(old), Some(new)) if old != new => Some(Pair { old, new }),
+            (Some(_), Some(_)) | (Some(_), None) | (None, _) => None,
+        }
     }
 
     /// Whether a limit differs.
@@ -66,11 +68,6 @@ pub(crate) fn impact_words(impact: &Impact) -> &'static str {
         Impact::UnchangedButForTrace(_) => "unchanged but for the trace kept",
         Impact::Changed(_) => "changed",
     }
-}
-
-/// The name of the file of a section's image, empty where it names none.
-pub(crate) fn file_of(section: &Section) -> &str {
-    section.image().unwrap_or("")
 }
 
 /// What differs of each limit, by its key in the configuration and in the order of the keys there.

@@ -90,8 +90,7 @@ fn put_notes<S: Serializer>(comparison: &Comparison<'_>, out: &mut S) -> Result<
         let Pair { old, new } = comparison.places;
         put_pair("place", place_value(old), place_value(new), out)?;
     }
-    if comparison.has_other_file() {
-        let (old, new) = (comparison.old_file, comparison.new_file);
+    if let Some(Pair { old, new }) = comparison.other_files() {
         put_pair("file", Value::Word(old), Value::Word(new), out)?;
     }
     Ok(())

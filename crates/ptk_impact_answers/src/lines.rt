@@ -1,6 +1,6 @@
 //! The lines of text.
 
-use crate::comparison::{Comparison, by_key, impact_words};
+use crate::comparison::{Comparison, Pair, by_key, impact_words};
 use ptk_impact::{Difference, ImageChange, Impact, InputChange, LimitChange, LimitChanges};
 use ptk_words::{Arrival, ImageFault, Tick};
 use std::io::Write;
@@ -147,8 +147,7 @@ fn put_notes<W: Write>(comparison: &Comparison<'_>, out: &mut W) -> io::Result<(
         let (old, new) = (comparison.places.old, comparison.places.new);
         writeln!(out, "  place: {old} -> {new} (no change of behaviour)")?;
     }
-    if comparison.has_other_file() {
-        let (old, new) = (comparison.old_file, comparison.new_file);
+    if let Some(Pair { old, new }) = comparison.other_files() {
         writeln!(out, "  file: {old} -> {new} (no change of behaviour)")?;
     }
     Ok(())
