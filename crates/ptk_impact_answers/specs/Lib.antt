@@ -1,3 +1,5 @@
 pub mod Counts
 pub mod Matching
+pub mod Renaming
 pub mod SameRuns
+pub mod Refusals

@@ -7,13 +7,13 @@ use Rattle.ptk_impact.specs.Views.{SeenAlikeButTrace}
 use Rattle.ptk_impact_answers.specs.declared.release.Release.{Release}
 use Rattle.ptk_impact_answers.specs.Matching.{Renamed, is_asked, place_after, place_before}
 
+-- the partition at a place of a configuration with its files (own)
+abbrev pub subject_at : Release → ℕ → Subject
+subject_at release place = record { config = release.config; files = release.files; partition = place }
+
 -- the partitions at these places are seen alike by boot, but for the trace's length (own)
-pub record AreSeenAlike (old : Release) (before : ℕ) (new : Release) (place : ℕ) : Type 0 where
-  pub was : Subject
-  pub is : Subject
-  pub was_of : (was.config.now ≡ old.config.now) × (was.files.now ≡ old.files.now) × (was.partition ≡ before)
-  pub is_of : (is.config.now ≡ new.config.now) × (is.files.now ≡ new.files.now) × (is.partition ≡ place)
-  pub alike : SeenAlikeButTrace was is
+abbrev pub AreSeenAlike : Release → ℕ → Release → ℕ → Type 0
+AreSeenAlike old before new place = SeenAlikeButTrace (subject_at old before) (subject_at new place)
 
 -- the new partition at this place was one of the old configuration, seen alike by boot (own)
 pub record WasSeenAlike (renames : List Renamed) (old new : Release) (place : ℕ) : Type 0 where
@@ -21,17 +21,24 @@ pub record WasSeenAlike (renames : List Renamed) (old new : Release) (place : �
   pub matched : place_before renames old.config.now (section_at new.config.now place).name ≡ Some before
   pub alike : AreSeenAlike old before new place
 
+-- the new partition at this place was one of the old configuration, seen alike by boot, if it is asked for (own)
+abbrev pub WasSeenAlikeIfAsked : List Renamed → Option (Bor (List ℕ)) → Release → Release → ℕ → Type 0
+WasSeenAlikeIfAsked renames asked old new place =
+    is_asked asked (section_at new.config.now place).name ≡ true → WasSeenAlike renames old new place
+
+-- the old partition at this place is still there, if it is asked for (own)
+abbrev pub IsStillThereIfAsked : List Renamed → Option (Bor (List ℕ)) → Release → Release → ℕ → Type 0
+IsStillThereIfAsked renames asked old new place =
+    is_asked asked (section_at old.config.now place).name ≡ true
+    → IsSome (place_after renames new.config.now (section_at old.config.now place).name)
+
 -- each new partition that is asked for, of those before this place, was one of the old configuration, seen alike by boot (own)
 abbrev pub WereSeenAlike : List Renamed → Option (Bor (List ℕ)) → Release → Release → ℕ → Type 0
-WereSeenAlike renames asked old new places =
-    (place : ℕ) → place < places → place < length new.config.now.sections → is_asked asked (section_at new.config.now place).name ≡ true
-    → WasSeenAlike renames old new place
+WereSeenAlike renames asked old new places = (place : ℕ) → place < places → WasSeenAlikeIfAsked renames asked old new place
 
 -- each old partition that is asked for is still there, of those before this place (own)
 abbrev pub AreStillThere : List Renamed → Option (Bor (List ℕ)) → Release → Release → ℕ → Type 0
-AreStillThere renames asked old new places =
-    (place : ℕ) → place < places → place < length old.config.now.sections → is_asked asked (section_at old.config.now place).name ≡ true
-    → IsSome (place_after renames new.config.now (section_at old.config.now place).name)
+AreStillThere renames asked old new places = (place : ℕ) → place < places → IsStillThereIfAsked renames asked old new place
 
 -- each partition that is asked for was and is there, seen alike by boot but for the trace's length (own)
 abbrev pub AreSameRuns : List Renamed → Option (Bor (List ℕ)) → Release → Release → Type 0

@@ -1,16 +1,18 @@
 //! The answer to the question for an impact.
 
-ghost use Rattle.std.specs.Prelude.{◌≡◌, ◌<◌, [], None, Some, true, List, IfOk, IfSome, IsSome, OnOk, length};
-ghost use Rattle.ptk_impact.specs.World.{section_at};
+ghost use Rattle.std.specs.Prelude.{◌≡◌, ◌≢◌, ◌<◌, ◌↔◌, Ok, None, Some, IfErr, IfOk, IfSome, IsOkAnd, MatchResult, OnOk, length, option_map};
+ghost use Rattle.ptk_main_faults.specs.Told.{told};
 ghost use Rattle.ptk_impact_answers.specs.Counts.{IsClear};
-ghost use Rattle.ptk_impact_answers.specs.Matching.{Renamed, is_asked, place_after, place_before};
-ghost use Rattle.ptk_impact_answers.specs.SameRuns.{AreSameRuns, AreSeenAlike, WasSeenAlike};
+ghost use Rattle.ptk_impact_answers.specs.Matching.{is_asked, place_after, place_before};
+ghost use Rattle.ptk_impact_answers.specs.Refusals.{refusal, unknown_asked, unknown_in, unknown_name, unknown_renamed};
+ghost use Rattle.ptk_impact_answers.specs.Renaming.{renames_of};
+ghost use Rattle.ptk_impact_answers.specs.SameRuns.{AreSameRuns, AreSeenAlike, AreStillThere, IsStillThereIfAsked, WasSeenAlikeIfAsked, WereSeenAlike};
 
 use crate::comparison::{Comparison, Pair};
 use crate::form::{Form, put_alone, put_beginning, put_comparison, put_counts};
 use crate::refusal::refusal_of;
 use crate::release::Release;
-use crate::renames::Renames;
+use crate::renames::{Rename, Renames};
 use crate::tally::Tally;
 use ptk_impact::Impact;
 use ptk_main_faults::Fault;
@@ -40,13 +42,13 @@ impl<'a> Question<'a> {
 }
 
 /// Writes what stands between two configurations: a line for each partition of the new one that is asked for, by name,
-/// with what differs beneath, then a line for each that is gone, and a last line that counts. Gives the counts. Where
-/// they have no changed, new or gone partition, each that is asked for was and is there, and boot sees the same of both
-/// but for the trace's length: it is the same run.
+/// with what differs beneath, then a line for each that is gone, and a last line that counts. Gives the counts. They
+/// have no changed, new or gone partition if and only if each that is asked for was and is there, and boot sees the
+/// same of both but for the trace's length: it is the same run.
 ///
-/// `Fault::MissingFile` names the first image that is not there, those of the old configuration first;
-/// `Fault::NoPartition` an asked name that neither configuration has, a renamed one that one of them has not, or what
-/// is no rename. Nothing is written before either. Any other fault is one of the host.
+/// `Fault::MissingFile` names the first image that is not there, those of the old configuration first; else
+/// `Fault::NoPartition` what is no rename, a renamed one that one of them has not, or an asked name that neither
+/// configuration has. Nothing is written before either. Any other fault is one of the host.
 pub fn impact_with<'a, 'f, W: Write>(
     alloc: Global,
     old: Release<'a, 'f>,
@@ -54,8 +56,13 @@ pub fn impact_with<'a, 'f, W: Write>(
     question: Question<'a>,
     out: &mut W,
 ) -> Result<Tally, Fault<'a>>
-    ensures { IfOk result (λ tally. (renames : List Renamed) × (question.entry.rename ≡ None → renames ≡ [])
-        × (IsClear tally → AreSameRuns renames question.entry.partition old.entry new.entry)) }
+    ensures same { IfOk result (λ tally. IsOkAnd (renames_of question.entry.rename) (λ renames.
+        IsClear tally ↔ AreSameRuns renames question.entry.partition old.entry new.entry)) }
+    ensures refused { MatchResult result
+        (λ _. refusal old.entry new.entry question.entry ≡ None)
+        (λ fault. fault ≢ Fault.NoMemory → fault ≢ Fault.WriteFailed → refusal old.entry new.entry question.entry ≡ Some (told fault)) }
+    ensures accepted { IfErr result (λ fault. fault ≡ Fault.WriteFailed → refusal old.entry new.entry question.entry ≡ None) }
+    ensures silent { IfErr result (λ fault. fault ≢ Fault.NoMemory → fault ≢ Fault.WriteFailed → out.new ≡ out.old) }
 {
     impact_in(Form::Lines, alloc, old, new, question, out)
 }
@@ -69,8 +76,13 @@ pub fn impact_json_with<'a, 'f, W: Write>(
     question: Question<'a>,
     out: &mut W,
 ) -> Result<Tally, Fault<'a>>
-    ensures { IfOk result (λ tally. (renames : List Renamed) × (question.entry.rename ≡ None → renames ≡ [])
-        × (IsClear tally → AreSameRuns renames question.entry.partition old.entry new.entry)) }
+    ensures same { IfOk result (λ tally. IsOkAnd (renames_of question.entry.rename) (λ renames.
+        IsClear tally ↔ AreSameRuns renames question.entry.partition old.entry new.entry)) }
+    ensures refused { MatchResult result
+        (λ _. refusal old.entry new.entry question.entry ≡ None)
+        (λ fault. fault ≢ Fault.NoMemory → fault ≢ Fault.WriteFailed → refusal old.entry new.entry question.entry ≡ Some (told fault)) }
+    ensures accepted { IfErr result (λ fault. fault ≡ Fault.WriteFailed → refusal old.entry new.entry question.entry ≡ None) }
+    ensures silent { IfErr result (λ fault. fault ≢ Fault.NoMemory → fault ≢ Fault.WriteFailed → out.new ≡ out.old) }
 {
     impact_in(Form::Json, alloc, old, new, question, out)
 }
@@ -84,20 +96,15 @@ fn impact_in<'a, 'f, W: Write>(
     question: Question<'a>,
     out: &mut W,
 ) -> Result<Tally, Fault<'a>>
-    ensures { IfOk result (λ tally. (renames : List Renamed) × (question.entry.rename ≡ None → renames ≡ [])
-        × (IsClear tally → AreSameRuns renames question.entry.partition old.entry new.entry)) }
+    ensures same { IfOk result (λ tally. IsOkAnd (renames_of question.entry.rename) (λ renames.
+        IsClear tally ↔ AreSameRuns renames question.entry.partition old.entry new.entry)) }
+    ensures refused { MatchResult result
+        (λ _. refusal old.entry new.entry question.entry ≡ None)
+        (λ fault. fault ≢ Fault.NoMemory → fault ≢ Fault.WriteFailed → refusal old.entry new.entry question.entry ≡ Some (told fault)) }
+    ensures accepted { IfErr result (λ fault. fault ≡ Fault.WriteFailed → refusal old.entry new.entry question.entry ≡ None) }
+    ensures silent { IfErr result (λ fault. fault ≢ Fault.NoMemory → fault ≢ Fault.WriteFailed → out.new ≡ out.old) }
 {
-    if let Some(name) = old.missing_image() {
-        return Err(Fault::MissingFile(name));
-    }
-    if let Some(name) = new.missing_image() {
-        return Err(Fault::MissingFile(name));
-    }
-    let renames = Renames::read(alloc, question.rename)?;
-    let releases = Releases { old, new, renames };
-    if let Some(name) = releases.unknown_name(question) {
-        return Err(Fault::NoPartition(name));
-    }
+    let releases = Releases::of(alloc, old, new, &question)?;
     match releases.put(form, alloc, &question, out) {
         Ok(tally) => Ok(tally),
         Err(PutFault::Memory) => Err(Fault::NoMemory),
@@ -114,18 +121,76 @@ struct Releases<'a, 'f> {
 }
 
 impl<'a, 'f> Releases<'a, 'f> {
-    /// The first name of the question that no partition has: of a rename in the old or the new configuration, or the
-    /// asked one in both.
-    fn unknown_name(&self, question: Question<'a>) -> Option<&'a str> {
+    /// Two configurations, with the renames of a question. A fault where an image is missing, where a name is no
+    /// partition's, or where memory ran out.
+    fn of(
+        alloc: Global,
+        old: Release<'a, 'f>,
+        new: Release<'a, 'f>,
+        question: &Question<'a>,
+    ) -> Result<Releases<'a, 'f>, Fault<'a>>
+        ensures kept { IfOk result (λ releases. (releases.old ≡ old.entry) × (releases.new ≡ new.entry)
+            × (renames_of question.now.rename ≡ Ok releases.renames)) }
+        ensures refused { MatchResult result
+            (λ _. refusal old.entry new.entry question.now ≡ None)
+            (λ fault. fault ≢ Fault.NoMemory → refusal old.entry new.entry question.now ≡ Some (told fault)) }
+        ensures unwritten { IfErr result (λ fault. fault ≢ Fault.WriteFailed) }
+    {
+        if let Some(name) = old.missing_image() {
+            return Err(Fault::MissingFile(name));
+        }
+        if let Some(name) = new.missing_image() {
+            return Err(Fault::MissingFile(name));
+        }
+        let renames = Renames::read(alloc, question.rename)?;
+        let releases = Releases { old, new, renames };
+        match releases.unknown_name(question.partition) {
+            Some(name) => Err(Fault::NoPartition(name)),
+            None => Ok(releases),
+        }
+    }
+
+    /// The first name that no partition has: of a rename in the old or the new configuration, else the asked one in
+    /// both.
+    fn unknown_name(&self, asked: Option<&'a str>) -> Option<&'a str>
+        ensures { option_map (λ name. name.now) result ≡ unknown_name self.now.old self.now.new self.now.renames asked.entry }
+    {
+        match self.unknown_renamed() {
+            Some(name) => Some(name),
+            None => self.unknown_asked(asked),
+        }
+    }
+
+    /// The first name of the renames that no partition has.
+    fn unknown_renamed(&self) -> Option<&'a str>
+        ensures { option_map (λ name. name.now) result ≡ unknown_renamed self.now.old self.now.new self.now.renames }
+    {
         for rename in self.renames.as_slice() {
-            if self.old.place_of(rename.old()).is_none() {
-                return Some(rename.old());
-            }
-            if self.new.place_of(rename.new()).is_none() {
-                return Some(rename.new());
+            if let Some(name) = self.unknown_in(rename) {
+                return Some(name);
             }
         }
-        let name = question.partition?;
+        None
+    }
+
+    /// The name of a rename that no partition has, of the old one in the old configuration, of the new one in the new.
+    fn unknown_in(&self, rename: &Rename<'a>) -> Option<&'a str>
+        ensures { option_map (λ name. name.now) result ≡ unknown_in self.now.old self.now.new rename.now }
+    {
+        if self.old.place_of(rename.old()).is_none() {
+            Some(rename.old())
+        } else if self.new.place_of(rename.new()).is_none() {
+            Some(rename.new())
+        } else {
+            None
+        }
+    }
+
+    /// The asked name, where neither configuration has a partition of it.
+    fn unknown_asked(&self, asked: Option<&'a str>) -> Option<&'a str>
+        ensures { option_map (λ name. name.now) result ≡ unknown_asked self.now.old self.now.new asked.entry }
+    {
+        let name = asked?;
         if self.new.place_of(name).is_none() && self.old.place_of(name).is_none() {
             Some(name)
         } else {
@@ -141,18 +206,50 @@ impl<'a, 'f> Releases<'a, 'f> {
         question: &Question<'_>,
         out: &mut W,
     ) -> Result<Tally, PutFault>
-        ensures { IfOk result (λ tally. IsClear tally → AreSameRuns self.now.renames question.now.partition self.now.old self.now.new) }
+        ensures { IfOk result (λ tally. IsClear tally ↔ AreSameRuns self.now.renames question.now.partition self.now.old self.now.new) }
     {
         let mut tally = Tally::new();
         put_beginning(form, out)?;
-        for place in 0..self.new.sections().len() {
-            self.put_new(form, alloc, place, question, &mut tally, out)?;
-        }
-        for place in 0..self.old.sections().len() {
-            self.put_gone(form, alloc, place, question, &mut tally, out)?;
-        }
+        self.put_all_new(form, alloc, question, &mut tally, out)?;
+        self.put_all_gone(form, alloc, question, &mut tally, out)?;
         put_counts(form, &tally, out)?;
         Ok(tally)
+    }
+
+    /// Writes what stands between each new partition that is asked for and the old one that it was.
+    fn put_all_new<W: Write>(
+        &self,
+        form: Form,
+        alloc: Global,
+        question: &Question<'_>,
+        tally: &mut Tally,
+        out: &mut W,
+    ) -> Result<(), PutFault>
+        ensures { OnOk result (IsClear tally.new ↔ (IsClear tally.old
+            × WereSeenAlike self.now.renames question.now.partition self.now.old self.now.new (length self.now.new.config.now.sections))) }
+    {
+        for place in 0..self.new.sections().len() {
+            self.put_new(form, alloc, place, question, tally, out)?;
+        }
+        Ok(())
+    }
+
+    /// Writes of each old partition that is asked for and is gone that it is.
+    fn put_all_gone<W: Write>(
+        &self,
+        form: Form,
+        alloc: Global,
+        question: &Question<'_>,
+        tally: &mut Tally,
+        out: &mut W,
+    ) -> Result<(), PutFault>
+        ensures { OnOk result (IsClear tally.new ↔ (IsClear tally.old
+            × AreStillThere self.now.renames question.now.partition self.now.old self.now.new (length self.now.old.config.now.sections))) }
+    {
+        for place in 0..self.old.sections().len() {
+            self.put_gone(form, alloc, place, question, tally, out)?;
+        }
+        Ok(())
     }
 
     /// Writes what stands between the new partition at this place, if it is asked for, and the old one that it was.
@@ -166,9 +263,8 @@ impl<'a, 'f> Releases<'a, 'f> {
         out: &mut W,
     ) -> Result<(), PutFault>
         requires { place < length self.now.new.config.now.sections }
-        ensures before { OnOk result (IsClear tally.new → IsClear tally.old) }
-        ensures alike { OnOk result (IsClear tally.new → is_asked question.now.partition (section_at self.now.new.config.now place).name ≡ true
-            → WasSeenAlike self.now.renames self.now.old self.now.new place) }
+        ensures { OnOk result (IsClear tally.new ↔ (IsClear tally.old
+            × WasSeenAlikeIfAsked self.now.renames question.now.partition self.now.old self.now.new place)) }
     {
         let name = self.new.sections()[place].name();
         if !question.is_for(name) {
@@ -216,8 +312,7 @@ impl<'a, 'f> Releases<'a, 'f> {
     ) -> Result<(), PutFault>
         requires old { places.old < length self.now.old.config.now.sections }
         requires new { places.new < length self.now.new.config.now.sections }
-        ensures before { OnOk result (IsClear tally.new → IsClear tally.old) }
-        ensures alike { OnOk result (IsClear tally.new → AreSeenAlike self.now.old places.old self.now.new places.new) }
+        ensures { OnOk result (IsClear tally.new ↔ (IsClear tally.old × AreSeenAlike self.now.old places.old self.now.new places.new)) }
     {
         let old = self.old.subject(places.old);
         let new = self.new.subject(places.new);
@@ -262,9 +357,8 @@ impl<'a, 'f> Releases<'a, 'f> {
         out: &mut W,
     ) -> Result<(), PutFault>
         requires { place < length self.now.old.config.now.sections }
-        ensures before { OnOk result (IsClear tally.new → IsClear tally.old) }
-        ensures there { OnOk result (IsClear tally.new → is_asked question.now.partition (section_at self.now.old.config.now place).name ≡ true
-            → IsSome (place_after self.now.renames self.now.new.config.now (section_at self.now.old.config.now place).name)) }
+        ensures { OnOk result (IsClear tally.new ↔ (IsClear tally.old
+            × IsStillThereIfAsked self.now.renames question.now.partition self.now.old self.now.new place)) }
     {
         let name = self.old.sections()[place].name();
         if question.is_for(name) && self.after(name).is_none() {

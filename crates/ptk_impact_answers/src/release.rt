@@ -1,7 +1,10 @@
 //! A configuration with its files.
 
-ghost use Rattle.std.specs.Prelude.{◌≡◌, ◌<◌, ◌≤◌, None, IfSome, length};
+ghost use Rattle.std.specs.Prelude.{◌≡◌, ◌<◌, ◌≤◌, None, IfSome, length, option_map};
+ghost use Rattle.ptk_main_runs.specs.Missing.{first_missing, is_missing};
 ghost use Rattle.ptk_main_runs.specs.Parts.{part_named};
+ghost use Rattle.ptk_impact_answers.specs.Refusals.{missing_image};
+ghost use Rattle.ptk_impact_answers.specs.SameRuns.{subject_at};
 
 use ptk_config::{Config, Section};
 use ptk_image::Files;
@@ -40,9 +43,7 @@ impl<'a, 'f> Release<'a, 'f> {
     /// The partition at this place.
     pub(crate) fn subject(&self, place: usize) -> Subject<'_>
         requires { place < length self.now.config.now.sections }
-        ensures config { result.config.now ≡ self.now.config.now }
-        ensures files { result.files.now ≡ self.now.files.now }
-        ensures partition { result.partition ≡ place }
+        ensures { result ≡ subject_at self.now place }
     {
         let _sections = self.sections();
         Subject {
@@ -53,15 +54,31 @@ impl<'a, 'f> Release<'a, 'f> {
     }
 
     /// The name of the first image, in the order of the sections, that no file has, None where each has its file.
-    pub(crate) fn missing_image(&self) -> Option<&'a str> {
+    pub(crate) fn missing_image(&self) -> Option<&'a str>
+        ensures { option_map (λ name. name.now) result ≡ missing_image self.now }
+    {
+        let place = self.place_of_missing()?;
+        self.sections()[place].image()
+    }
+
+    /// The place of the first section that names an image which no file has.
+    fn place_of_missing(&self) -> Option<usize>
+        ensures place { result ≡ first_missing self.now.files.now self.now.config.now.sections }
+        ensures within { IfSome result (λ place. place < length self.now.config.now.sections) }
+    {
         let files = self.files;
-        for section in self.sections() {
-            if let Some(name) = section.image() {
-                if files.get(name).is_none() {
-                    return Some(name);
-                }
-            }
-        }
-        None
+        self.sections()
+            .iter()
+            .position(|section| is_missing(section, files))
+    }
+}
+
+/// Whether the section names an image and no file has the name.
+fn is_missing(section: &Section, files: &Files) -> bool
+    ensures { result ≡ is_missing files.now section.now }
+{
+    match section.image() {
+        Some(name) => files.get(name).is_none(),
+        None => false,
     }
 }

@@ -1,11 +1,13 @@
 //! The partitions that have another name in the new configuration.
 
-ghost use Rattle.std.specs.Prelude.{◌≡◌, ◌<◌, None, [], IfOk, IfSome, length, option_map};
+ghost use Rattle.std.specs.Prelude.{◌≡◌, ◌≢◌, ◌<◌, ℕ, Ok, Err, None, List, [], ◌∷◌, ◌++◌, IfSome, IsSomeAnd, MatchResult, length, option_map};
 ghost use Rattle.std.specs.Str.{bytes_eq};
+ghost use Rattle.ptk_main_faults.specs.Told.{told};
 ghost use Rattle.ptk_impact_answers.specs.Matching.{new_name, old_name, place_from, place_to};
+ghost use Rattle.ptk_impact_answers.specs.Renaming.{cut, no_partition, rename_of, renames_of};
 
 use ptk_main_faults::Fault;
-use std::alloc::{AllocError, Global};
+use std::alloc::Global;
 use std::marker::Model;
 
 /// The greatest number of renames: each configuration has at most this many partitions.
@@ -46,7 +48,9 @@ impl<'a> Renames<'a> {
     /// one is no such pair or there are more than eight, which names it as the name of no partition, or where memory
     /// ran out.
     pub(crate) fn read(alloc: Global, text: Option<&'a str>) -> Result<Renames<'a>, Fault<'a>>
-        ensures { text.entry ≡ None → IfOk result (λ renames. renames ≡ []) }
+        ensures { MatchResult result
+            (λ renames. renames_of text.entry ≡ Ok renames)
+            (λ fault. fault ≢ Fault.NoMemory → (name : List ℕ) × (renames_of text.entry ≡ Err name) × (told fault ≡ no_partition name)) }
     {
         let mut renames = Renames {
             items: Vec::new(alloc),
@@ -55,14 +59,14 @@ impl<'a> Renames<'a> {
             return Ok(renames);
         };
         let mut rest = text;
-        for _ in 0..MOST_RENAMES {
-            match rest.split_once(',') {
-                Some((first, later)) => {
-                    renames.add(Rename::read(first)?)?;
-                    rest = later;
+        for _taken in 0..MOST_RENAMES {
+            match cut(rest, ',') {
+                Some((first, others)) => {
+                    renames.add(first)?;
+                    rest = others;
                 }
                 None => {
-                    renames.add(Rename::read(rest)?)?;
+                    renames.add(rest)?;
                     return Ok(renames);
                 }
             }
@@ -70,14 +74,26 @@ impl<'a> Renames<'a> {
         Err(Fault::NoPartition(rest))
     }
 
-    /// Adds a rename. An error where memory ran out.
-    fn add(&mut self, rename: Rename<'a>) -> Result<(), AllocError> {
-        self.items.push(rename)?;
-        Ok(())
+    /// Adds the rename that a text states. A fault where it states none, which names it as the name of no partition, or
+    /// where memory ran out.
+    fn add(&mut self, text: &'a str) -> Result<(), Fault<'a>>
+        ensures { MatchResult result
+            (λ _. IsSomeAnd (rename_of text.now) (λ rename. self.new ≡ self.old ++ (rename ∷ [])))
+            (λ fault. fault ≢ Fault.NoMemory → (rename_of text.now ≡ None) × (told fault ≡ no_partition text.now)) }
+    {
+        let Some(rename) = Rename::read(text) else {
+            return Err(Fault::NoPartition(text));
+        };
+        match self.items.push(rename) {
+            Ok(()) => Ok(()),
+            Err(_) => Err(Fault::NoMemory),
+        }
     }
 
     /// The renames, in the order written.
-    pub(crate) fn as_slice(&self) -> &[Rename<'a>] {
+    pub(crate) fn as_slice(&self) -> &[Rename<'a>]
+        ensures { result.now ≡ self.now }
+    {
         self.items.as_slice()
     }
 
@@ -133,11 +149,13 @@ impl<'a> Renames<'a> {
 }
 
 impl<'a> Rename<'a> {
-    /// The rename that a text `OLD=NEW` states.
-    fn read(text: &'a str) -> Result<Rename<'a>, Fault<'a>> {
-        match text.split_once('=') {
-            Some((old, new)) => Ok(Rename { old, new }),
-            None => Err(Fault::NoPartition(text)),
+    /// The rename that a text `OLD=NEW` states, None where it states none.
+    fn read(text: &'a str) -> Option<Rename<'a>>
+        ensures { result ≡ rename_of text.now }
+    {
+        match cut(text, '=') {
+            Some((old, new)) => Some(Rename { old, new }),
+            None => None,
         }
     }
 
@@ -168,4 +186,12 @@ impl<'a> Rename<'a> {
     {
         self.new == name
     }
+}
+
+/// What is before the first such character and what is behind it, None of a text without one.
+fn cut(text: &str, at: char) -> Option<(&str, &str)>
+    requires { at < 128 }
+    ensures { option_map (λ parts. (parts.0.now, parts.1.now)) result ≡ cut at text.now }
+{
+    text.split_once(at)
 }

@@ -42,8 +42,7 @@ impl Tally {
 
     /// Counts a partition that both configurations have.
     pub(crate) fn count(&mut self, impact: &Impact)
-        ensures before { IsClear self.new → IsClear self.old }
-        ensures same { IsClear self.new → IsNoChange impact.now }
+        ensures { IsClear self.new ↔ (IsClear self.old × IsNoChange impact.now) }
     {
         match impact {
             Impact::Unchanged => self.unchanged = self.unchanged.saturating_add(1),
