@@ -19,7 +19,8 @@ use ptk_words::Tick;
 use std::alloc::Global;
 use std::io::Write;
 
-/// The lines of the last steps of the partition of this name.
+/// The lines of the last steps of the partition of this name. `Fault::NoPartition` where no partition has the name,
+/// else `Fault::MissingFile` for the first image that is not there, `Fault::NoMemory` or `Fault::WriteFailed`.
 pub fn trace_answer<'a, W: Write>(
     alloc: Global,
     config: &'a Config,
@@ -41,7 +42,8 @@ pub fn trace_answer<'a, W: Write>(
 }
 
 /// The lines of the last steps of the partition of this name that the filter shows, in words. Which of them it shows
-/// and what is behind each is for `decoded_trace_with` to say.
+/// and what is behind each is for `decoded_trace_with` to say. `Fault::NoPartition` where no partition has the name,
+/// else `Fault::MissingFile` for the first image that is not there, `Fault::NoMemory` or `Fault::WriteFailed`.
 pub fn decoded_answer<'a, W: Write>(
     alloc: Global,
     config: &'a Config,
