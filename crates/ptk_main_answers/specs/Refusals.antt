@@ -1,4 +1,4 @@
--- Why a request over a configuration and files is refused, as a fault is told.
+-- Why a request over a configuration and files is refused, as the program's faults.
 use Rattle.std.specs.Prelude.{◌≡◌, ◌≢◌, ℕ, List, Option, Some, None, option_map, option_and_then, if◌then◌else◌, nat_le}
 use Rattle.ptk_config.specs.Configuration.{Configuration}
 use Rattle.ptk_image.specs.NamedFiles.{NamedFile}
