@@ -3,15 +3,16 @@ use Rattle.std.specs.Prelude.{◌<◌, ◌≤◌, ℕ, Option, Some, None, IfSom
 use Rattle.ptk_words.specs.declared.TheConstants.{LAST_TICK}
 use Rattle.ptk_config.specs.Configuration.{Configuration}
 use Rattle.ptk_config.specs.Sections.{with_trace_at}
+use Rattle.ptk_main_line.specs.declared.line.TheConstants.{MOST_STEPS, MOST_THREADS}
 use Rattle.ptk_main_line.specs.declared.requests.TraceOptions.{TraceOptions}
 
 -- a thread's number, or none (own)
 abbrev pub IsThread : Option ℕ → Type 0
-IsThread thread = IfSome thread (λ n. (0 < n) × (n ≤ 32))
+IsThread thread = IfSome thread (λ n. (0 < n) × (n ≤ MOST_THREADS))
 
 -- a number of steps that a trace may keep, or none (own)
 abbrev pub AreSteps : Option ℕ → Type 0
-AreSteps steps = IfSome steps (λ k. k ≤ 1048576)
+AreSteps steps = IfSome steps (λ k. k ≤ MOST_STEPS)
 
 -- the trace goes to no tick after the last, and its thread and its number of steps can be (own)
 abbrev pub IsTraceInRange : TraceOptions → Type 0
