@@ -1,8 +1,8 @@
 //! `trace`: the last steps of a partition, as they are or in words.
 
-ghost use Rattle.std.specs.Prelude.{◌≡◌, ◌<◌, ◌≤◌, ℕ, IfSome};
-ghost use Rattle.ptk_words.specs.declared.TheConstants.{LAST_TICK};
+ghost use Rattle.std.specs.Prelude.{◌≡◌, ◌+◌, ◌-◌, ◌^◌, min, unwrap_or};
 ghost use Rattle.ptk_main_answers.specs.Parts.{part_named};
+ghost use Rattle.ptk_main_line.specs.declared.line.TheConstants.{MOST_TICKS};
 ghost use Rattle.ptk_main_files.specs.Traces.{AreSteps, IsThread, IsTraceInRange, keeping};
 
 use crate::explaining::refused;
@@ -98,11 +98,13 @@ fn put_words<'a>(
     )
 }
 
-// The steps that are shown.
+// The steps that are shown: those from the first tick asked for to the last, that one with it.
 fn filter_of(options: TraceOptions<'_>) -> Filter
     requires { IsThread options.thread }
     ensures thread { result.thread ≡ options.entry.thread }
     ensures calls { result.is_calls_only ≡ options.entry.calls }
+    ensures from { result.from ≡ unwrap_or options.entry.from 0 }
+    ensures to { result.to ≡ min (unwrap_or options.entry.to MOST_TICKS + 1) (2 ^ 64 - 1) }
 {
     let last = options.to.unwrap_or(MOST_TICKS);
     Filter {
