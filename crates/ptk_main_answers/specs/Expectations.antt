@@ -1,5 +1,7 @@
 -- Whether a run is as it is expected to be.
-use Rattle.std.specs.Prelude.{◌≡◌, ◌≢◌, ◌<◌, ◌+◌, ◌==◌, ℕ, List, Option, Some, None, true, count_by, length, min, slice_get, take, if◌then◌else◌}
+use Rattle.std.specs.Prelude.{◌≡◌, ◌≢◌, ◌<◌, ◌≤◌, ◌+◌, ◌==◌, ◌⊎◌, ℕ, List, Option, Some, None, IfSome, IsSomeAnd, IsTrue, true, count_by, length, min, slice_get, take, if◌then◌else◌}
+use Rattle.std.specs.Io.KnownBytes.{Appends}
+use Rattle.ptk_main_runs.specs.Shown.{report_of}
 use Rattle.ptk_main_runs.specs.Told.{is_halted, status_in}
 use Rattle.ptk_main_runs.specs.World.{World, state_of}
 use Rattle.ptk_main_runs.specs.PartStatus.{PartStatus}
@@ -7,8 +9,13 @@ use Rattle.ptk_main_runs.specs.PartStatus.TheVariants as status
 use Rattle.ptk_main_faults.specs.declared.fault.FailureKind.{FailureKind}
 use Rattle.ptk_main_faults.specs.declared.fault.FailureKind.TheVariants as kind
 use Rattle.ptk_main_faults.specs.declared.fault.Fault.{Fault}
-use Rattle.ptk_main_faults.specs.declared.fault.Fault.TheVariants.{Differs}
+use Rattle.ptk_main_faults.specs.declared.fault.Fault.TheVariants.{Differs, FailedOn}
+use Rattle.ptk_main_faults.specs.Told.{text, told}
 use Rattle.ptk_main_line.specs.declared.requests.FailOn.{FailOn}
+use Rattle.ptk_main_line.specs.declared.requests.Format.{Format}
+use Rattle.ptk_main_line.specs.declared.requests.Format.TheVariants as form
+use Rattle.ptk_main_answers.specs.Images.{part_name}
+use Rattle.ptk_main_answers.specs.declared.run.RunQuestion.{RunQuestion}
 
 -- the place is the least at which the lists differ: one of them may end there (own)
 pub record IsFirstOther (xs ys : List ℕ) (place : ℕ) : Type 0 where
@@ -41,3 +48,43 @@ pub record IsFailure (kinds : FailOn) (world : World) (p : ℕ) (kind : FailureK
 -- every partition has halted (own)
 abbrev pub AreHalted : World → Type 0
 AreHalted world = (q : ℕ) → q < length world.config.sections → is_halted (status_in (state_of world q).part) ≡ true
+
+-- no partition is of a kind to fail on (own)
+abbrev pub IsNoFailure : FailOn → World → Type 0
+IsNoFailure kinds world = (q : ℕ) → q < length world.config.sections → failure_of kinds (status_in (state_of world q).part) ≡ None
+
+-- ---- a run against what is asked of it
+
+-- a system is one at which the run may end: at the last tick, or on request at one up to it at which every partition has halted (own)
+pub record IsEnd (question : RunQuestion) (world : World) : Type 0 where
+  pub within : world.tick ≤ question.ticks
+  pub end : (world.tick ≡ question.ticks) ⊎ (IsTrue question.until_halted × AreHalted world)
+
+-- the bytes are a report of the system in this form: in lines they are its report (own)
+abbrev pub IsReport : Format → World → List ℕ → Type 0
+IsReport format world bytes = format ≡ form.Text → bytes ≡ report_of world
+
+-- what a writer got is the report of the system, and is what was expected (own)
+pub record IsReported (question : RunQuestion) (world : World) (old new : Option (List ℕ)) : Type 0 where
+  pub report : question.format ≡ form.Text → Appends old new (report_of world)
+  pub expected : IfSome question.expected (λ bytes. IsReport question.format world bytes.now × Appends old new bytes.now)
+
+-- what a writer got is a report of the system, and the fault says where it is first not what was expected (own)
+abbrev pub IsUnlike : RunQuestion → World → Option (List ℕ) → Option (List ℕ) → Fault → Type 0
+IsUnlike question world old new fault = IsSomeAnd question.expected (λ bytes. (report : List ℕ)
+    × IsReport question.format world report × Appends old new report × IsFirstDifference report bytes.now fault)
+
+-- the fault names the first partition of a kind to fail on, with the kind (own)
+abbrev pub IsFailedOn : FailOn → World → Fault → Type 0
+IsFailedOn kinds world fault = (p : ℕ) × (kind : FailureKind) × IsFailure kinds world p kind × (told fault ≡ FailedOn (text (part_name world.config p)) kind)
+
+-- a run of which the system is the end has what it was asked for (own)
+pub record IsPassed (question : RunQuestion) (world : World) (old new : Option (List ℕ)) : Type 0 where
+  pub end : IsEnd question world
+  pub reported : IsReported question world old new
+  pub partitions : IsNoFailure question.fail_on world
+
+-- a run of which the system is the end has not: the report is another one, or a partition is of a kind to fail on (own)
+pub record IsFailed (question : RunQuestion) (world : World) (old new : Option (List ℕ)) (fault : Fault) : Type 0 where
+  pub end : IsEnd question world
+  pub why : IsUnlike question world old new fault ⊎ (IsReported question world old new × IsFailedOn question.fail_on world fault)

@@ -14,6 +14,10 @@ use Rattle.ptk_main_runs.specs.PartStatus.TheVariants as status
 abbrev pub image_name : Configuration → ℕ → List ℕ
 image_name config p = unwrap_or (section_at config p).image []
 
+-- the name of a partition, empty past the last
+abbrev pub part_name : Configuration → ℕ → List ℕ
+part_name config p = (section_at config p).name
+
 -- why a section's image is refused
 abbrev pub image_refusal : List NamedFile → Section → Option ImageFault
 image_refusal files section = refusal_of section.limits (image_in files section.image)

@@ -1,8 +1,9 @@
 //! JSON objects: the report of a run, and the answer to a check.
 
-ghost use Rattle.std.specs.Prelude.{◌≡◌, ◌<◌, IfOk, length, string_bytes};
+ghost use Rattle.std.specs.Prelude.{◌≡◌, ◌<◌, IfErr, IfOk, length, string_bytes};
 ghost use Rattle.json.specs.Lex.{tokens};
 ghost use Rattle.json.specs.Print.{print};
+ghost use Rattle.ptk_main_answers.specs.HostFaults.{IsHostFault};
 
 use base64::engine::general_purpose::STANDARD;
 use ptk_main_faults::Fault;
@@ -41,12 +42,15 @@ struct Check<'a> {
     explanation: &'a str,
 }
 
-/// Writes the report of a system as one JSON object and a newline, a partition at a time.
+/// Writes the report of a system as one JSON object and a newline, a partition at a time. A fault where memory was
+/// refused or the writer failed.
 pub(crate) fn put_document<W: Write>(
     alloc: Global,
     system: &System<'_>,
     out: &mut W,
-) -> Result<(), Fault<'static>> {
+) -> Result<(), Fault<'static>>
+    ensures { IfErr result IsHostFault }
+{
     let tick = system.tick().ticks();
     written(write!(
         out,
@@ -63,17 +67,21 @@ pub(crate) fn put_document<W: Write>(
 }
 
 /// The outcome of a write.
-fn written(outcome: io::Result<()>) -> Result<(), Fault<'static>> {
+fn written(outcome: io::Result<()>) -> Result<(), Fault<'static>>
+    ensures { IfErr result IsHostFault }
+{
     match outcome {
         Ok(()) => Ok(()),
         Err(_) => Err(Fault::WriteFailed),
     }
 }
 
-/// The JSON text of a partition's part of the report: an object in the compact form of its tokens, with no newline.
+/// The JSON text of a partition's part of the report: an object in the compact form of its tokens, with no newline. A
+/// fault where memory was refused.
 fn json_of(alloc: Global, system: &System<'_>, p: PartId) -> Result<String, Fault<'static>>
     requires { p < length system.now.config.sections }
-    ensures { IfOk result (λ text. string_bytes text ≡ print (tokens (string_bytes text))) }
+    ensures form { IfOk result (λ text. string_bytes text ≡ print (tokens (string_bytes text))) }
+    ensures failed { IfErr result IsHostFault }
 {
     let output = STANDARD.encode(alloc, system.output(p))?;
     let status = system.status(p);

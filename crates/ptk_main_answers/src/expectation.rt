@@ -1,9 +1,7 @@
 //! Whether a run is as it is expected to be.
 
-ghost use Rattle.std.specs.Prelude.{◌≡◌, ◌<◌, ℕ, MatchOption, None, length};
-ghost use Rattle.ptk_main_runs.specs.Told.{status_in};
-ghost use Rattle.ptk_main_runs.specs.World.{state_of};
-ghost use Rattle.ptk_main_answers.specs.Expectations.{IsFailure, IsFirstDifference, IsFirstOther, failure_of, line_behind};
+ghost use Rattle.std.specs.Prelude.{◌≡◌, MatchOption};
+ghost use Rattle.ptk_main_answers.specs.Expectations.{IsFailure, IsFirstDifference, IsFirstOther, IsNoFailure, failure_of, line_behind};
 
 use ptk_main_faults::{FailureKind, Fault};
 use ptk_main_line::FailOn;
@@ -62,9 +60,7 @@ fn failure_of(fail_on: FailOn, status: PartStatus) -> Option<FailureKind>
 
 /// The first partition, in their order, that is of a kind to fail on, with the kind. None where none is.
 pub(crate) fn first_failure(system: &System<'_>, fail_on: FailOn) -> Option<(PartId, FailureKind)>
-    ensures { MatchOption result
-        ((q : ℕ) → q < length system.now.config.sections → failure_of fail_on (status_in (state_of system.now q).part) ≡ None)
-        (λ r. IsFailure fail_on system.now r.0 r.1) }
+    ensures { MatchOption result (IsNoFailure fail_on system.now) (λ r. IsFailure fail_on system.now r.0 r.1) }
 {
     for i in 0..system.parts() {
         let p = PartId::new(i as u8);

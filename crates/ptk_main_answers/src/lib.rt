@@ -4,15 +4,17 @@
 //! partition's trace with each step in words, its symbol, and the names of calls and replies (`decoded_trace_with`).
 //!
 //! - `run_answer` writes the report of the booted configuration after the ticks asked for, where it is asked for in
-//!   lines and to no earlier end (`written`).
-//! - `trace_answer` the named partition's trace, `check_with` `ok` and a newline.
-//! - A fault is the refusal that is due (no partition of the name, the first missing image, for a check the first image
-//!   that is refused, each by name), out of memory only where nothing is lacking, and a failed write only where nothing
-//!   is refused.
+//!   lines and to no earlier end (`written`); it succeeds only where that is the expected report (`expected`) and no
+//!   partition is of a kind to fail on (`passed`). On request it ends at a tick at which every partition has halted, or
+//!   at the last one, and in each form what it wrote is what is expected (`ended`).
+//! - Where no image is missing its fault is out of memory, a failed write, the first byte at which the report that it
+//!   wrote is not the expected one, or else the first partition of a kind to fail on (`failed`).
+//! - `trace_answer` writes the named partition's trace, `check_with` `ok` and a newline.
+//! - Any other fault is the refusal that is due (no partition of the name, the first missing image, for a check the
+//!   first image that is refused, each by name), out of memory only where nothing is lacking, and a failed write only
+//!   where nothing is refused (`refused`).
 //! - `difference` is the first byte at which a report is not the expected one, with its line and both bytes, and none
 //!   if and only if they are the same.
-//! - `run_watched` ends at the last tick, or on request where every partition has halted, and `first_failure` is the
-//!   first partition of a kind to fail on.
 //! - Of JSON objects the clauses say only their form (an object is the compact text of its own tokens).
 //! - `explain_with` returns a text's first fault with its place, and writes what `explain` does (`written`).
 //! - `decoded_answer` promises its refusals alone.

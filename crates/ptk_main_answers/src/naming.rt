@@ -2,7 +2,7 @@
 
 ghost use Rattle.std.specs.Prelude.{◌≡◌};
 ghost use Rattle.ptk_main_faults.specs.Told.{told};
-ghost use Rattle.ptk_main_answers.specs.Images.{image_name};
+ghost use Rattle.ptk_main_answers.specs.Images.{image_name, part_name};
 ghost use Rattle.ptk_main_answers.specs.Refusals.{boot_fault, run_fault};
 
 use ptk_config::Config;
@@ -21,7 +21,9 @@ pub(crate) fn image_name(config: &Config, p: PartId) -> &str
 }
 
 /// The name of a partition, empty where there is none of this number.
-pub(crate) fn part_name(config: &Config, p: PartId) -> &str {
+pub(crate) fn part_name(config: &Config, p: PartId) -> &str
+    ensures { result.now ≡ part_name config.now p }
+{
     match config.sections().get(p.index()) {
         Some(section) => section.name(),
         None => "",

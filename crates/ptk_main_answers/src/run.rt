@@ -1,12 +1,12 @@
 //! The answer to a run.
 
-ghost use Rattle.std.specs.Prelude.{◌≡◌, ◌≤◌, ◌<◌, ◌↔◌, ◌⊎◌, None, OnOk, MatchResult, IsTrue, false, length};
+ghost use Rattle.std.specs.Prelude.{◌≡◌, ◌≤◌, ◌<◌, ◌⊎◌, ℕ, None, IfErr, IfSome, OnOk, MatchResult, IsTrue, false};
 ghost use Rattle.std.specs.Io.KnownBytes.{Appends};
 ghost use Rattle.ptk_words.specs.declared.TheConstants.{LAST_TICK};
 ghost use Rattle.ptk_main_runs.specs.Shown.{report_of};
-ghost use Rattle.ptk_main_runs.specs.Told.{status_in};
-ghost use Rattle.ptk_main_runs.specs.World.{at_tick, state_of, world_at};
-ghost use Rattle.ptk_main_answers.specs.Expectations.{AreHalted};
+ghost use Rattle.ptk_main_runs.specs.World.{at_tick, world_at};
+ghost use Rattle.ptk_main_answers.specs.Expectations.{AreHalted, IsFailed, IsNoFailure, IsPassed, IsReported, IsUnlike};
+ghost use Rattle.ptk_main_answers.specs.HostFaults.{IsHostFault};
 ghost use Rattle.ptk_main_answers.specs.Refusals.{IsFaultOf, missing_image};
 
 use crate::document::put_document;
@@ -47,8 +47,9 @@ pub struct RunQuestion<'q> {
     pub fail_on: FailOn,
 }
 
-/// Runs a configuration and writes its report. A fault where an image's file is missing, memory was refused or the
-/// writer failed; and where the report is written, but is not the expected one, or a partition is of a kind to fail on.
+/// Runs a configuration and writes its report. `Fault::MissingFile` for the first image that is not there, else
+/// `Fault::NoMemory` or `Fault::WriteFailed`, and where the report is written `Fault::Differs` for the first byte at
+/// which it is not the expected one, else `Fault::FailedOn` for the first partition of a kind to fail on.
 pub fn run_answer<'a, V: Watch, W: Write>(
     alloc: Global,
     config: &'a Config,
@@ -60,8 +61,15 @@ pub fn run_answer<'a, V: Watch, W: Write>(
     requires { question.now.ticks ≤ LAST_TICK }
     ensures written { OnOk result (question.now.until_halted ≡ false → question.now.format ≡ Format.Text →
         Appends (W.contents out.old) (W.contents out.new) (report_of (world_at config.now files.now question.now.ticks))) }
+    ensures expected { OnOk result (question.now.until_halted ≡ false → question.now.format ≡ Format.Text →
+        IfSome question.now.expected (λ bytes. bytes.now ≡ report_of (world_at config.now files.now question.now.ticks))) }
+    ensures passed { OnOk result (question.now.until_halted ≡ false →
+        IsNoFailure question.now.fail_on (world_at config.now files.now question.now.ticks)) }
+    ensures ended { OnOk result ((n : ℕ) × IsPassed question.now (world_at config.now files.now n) (W.contents out.old) (W.contents out.new)) }
     ensures refused { let refusal = missing_image config.now files.now in
         MatchResult result (λ _. refusal ≡ None) (λ fault. (refusal ≡ None) ⊎ IsFaultOf refusal refusal fault) }
+    ensures failed { IfErr result (λ fault. missing_image config.now files.now ≡ None → IsHostFault fault
+        ⊎ ((n : ℕ) × IsFailed question.now (world_at config.now files.now n) (W.contents out.old) (W.contents out.new) fault)) }
 {
     let mut system = match System::boot(alloc, config, files) {
         Ok(system) => system,
@@ -81,6 +89,7 @@ fn run_watched<V: Watch>(system: &mut System<'_>, last: Tick, until_halted: bool
     requires small { last ≤ LAST_TICK }
     requires start { system.old.tick ≤ last }
     ensures run { system.new ≡ at_tick system.new.tick system.old }
+    ensures within { system.new.tick ≤ last }
     ensures end { (system.new.tick ≡ last) ⊎ (IsTrue until_halted × AreHalted system.new) }
 {
     system.states_are_alone();
@@ -127,14 +136,16 @@ fn all_halted(system: &System<'_>) -> bool
     true
 }
 
-/// Writes the report of a system, and compares it where one is expected.
+/// Writes the report of a system, and compares it where one is expected. A fault where memory was refused or the writer
+/// failed, and where the report is written but is not the expected one.
 fn put_answer<W: Write>(
     alloc: Global,
     system: &System<'_>,
     question: &RunQuestion<'_>,
     out: &mut W,
 ) -> Result<(), Fault<'static>>
-    ensures written { OnOk result (question.now.format ≡ Format.Text → Appends (W.contents out.old) (W.contents out.new) (report_of system.now)) }
+    ensures reported { OnOk result (IsReported question.now system.now (W.contents out.old) (W.contents out.new)) }
+    ensures failed { IfErr result (λ fault. IsHostFault fault ⊎ IsUnlike question.now system.now (W.contents out.old) (W.contents out.new) fault) }
 {
     let Some(expected) = question.expected else {
         return put_report(alloc, system, question.format, out);
@@ -149,7 +160,7 @@ fn put_answer<W: Write>(
     }
 }
 
-/// Writes the report of a system in a form.
+/// Writes the report of a system in a form. A fault where memory was refused or the writer failed.
 fn put_report<W: Write>(
     alloc: Global,
     system: &System<'_>,
@@ -157,6 +168,7 @@ fn put_report<W: Write>(
     out: &mut W,
 ) -> Result<(), Fault<'static>>
     ensures written { OnOk result (format ≡ Format.Text → Appends (W.contents out.old) (W.contents out.new) (report_of system.now)) }
+    ensures failed { IfErr result IsHostFault }
 {
     match format {
         Format::Json => put_document(alloc, system, out),

@@ -1,0 +1,27 @@
+use Rattle.std.proofs.Common.{inr, subst}
+use Rattle.ptk_main_runs.specs.World.{World}
+use Rattle.ptk_main_answers.specs.Expectations.{IsNoFailure}
+use Rattle.ptk_main_answers.proofs.Runs.{at_last, failed_on_at, passed_at, passed_on, unlike_at}
+use Rattle.ptk_main_answers.proofs.run.run_answer.Goals as goal
+
+pub returns-clause-passed : goal.returns-clause-passed
+returns-clause-passed g c last =
+    subst (λ (w : World). IsNoFailure c.args.question.now.fail_on w)
+    (at_last c.args.question.now c.args.config.now c.args.files.now c.in-Ok.system c.run_watched.new.system c.in-Ok.ensures.booted c.run_watched.ensures.run c.run_watched.ensures.end last)
+    c.in-None.ensures
+
+pub returns-clause-ended : goal.returns-clause-ended
+returns-clause-ended g c =
+    passed_at c.args.question.now c.args.config.now c.args.files.now c.in-Ok.system c.run_watched.new.system _ _ c.in-Ok.ensures.booted c.run_watched.ensures.run c.run_watched.ensures.within c.run_watched.ensures.end
+    c.in_ok-put_answer.ensures.reported c.in-None.ensures
+
+pub returns-in-Some-clause-failed : goal.returns-in-Some-clause-failed
+returns-in-Some-clause-failed g c whole =
+    inr (failed_on_at c.args.question.now c.args.config.now c.args.files.now c.in-Ok.system c.run_watched.new.system _ _ _ _ c.part_name.result c.in-Ok.ensures.booted c.run_watched.ensures.run c.run_watched.ensures.within c.run_watched.ensures.end
+    c.in_ok-put_answer.ensures.reported c.in-Some.ensures c.part_name.ensures)
+
+pub returns-in_err-put_answer-clause-failed : goal.returns-in_err-put_answer-clause-failed
+returns-in_err-put_answer-clause-failed g c =
+    passed_on _ c.from_residual.result c.in_err-put_answer.field-0.0 c.from_residual.ensures.1
+    (λ whole. unlike_at c.args.question.now c.args.config.now c.args.files.now c.in-Ok.system c.run_watched.new.system _ _ c.in-Ok.ensures.booted c.run_watched.ensures.run c.run_watched.ensures.within c.run_watched.ensures.end
+    c.in_err-put_answer.field-0.0 c.in_err-put_answer.ensures.failed)
