@@ -67,8 +67,10 @@ fn print_report(rt: &HostRuntime, name: &str, ticks: u64) -> Result<()> {
     let alloc = rt.alloc();
     let configuration = format!(in alloc; "guests/{name}.toml")?;
     let (config, files) = read_guest(rt, configuration.as_str(), Some("guests"))?;
-    let outcome = run_with(alloc, &config, &files, tick_of(ticks), &mut rt.stdout());
-    outcome.map_err(|fault| Error::msg(reason(fault)))
+    match run_with(alloc, &config, &files, tick_of(ticks), &mut rt.stdout()) {
+        Ok(()) => Ok(()),
+        Err(fault) => Err(Error::msg(reason(fault))),
+    }
 }
 
 // Why a run gives no report, in words. With `?` in its place the checker does not find the type of a boot's fault.
