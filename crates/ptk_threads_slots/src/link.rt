@@ -108,8 +108,13 @@ impl SlotLink {
 fn thread_at(first: u8, slot: &Option<SlotNo>) -> Option<ThreadNo>
     ensures { result ≡ option_map (number_at first) slot.now }
 {
-    let place = (*slot)?.index().saturating_sub(first as usize) % NUMBERS;
-    Some(ThreadNo::new(place as u8 + 1))
+    match slot {
+        Some(slot) => {
+            let place = slot.index().saturating_sub(first as usize) % NUMBERS;
+            Some(ThreadNo::new(place as u8 + 1))
+        }
+        None => None,
+    }
 }
 
 /// The slot of a thread, if it is one, in the partition with this first slot.
@@ -118,8 +123,10 @@ fn slot_at(first: u8, thread: &Option<ThreadNo>) -> Option<SlotNo>
     ensures slot { result ≡ option_map (slot_at first) thread.now }
     ensures back { option_map (number_at first) result ≡ thread.now }
 {
-    let place = (*thread)?.place();
-    Some(SlotNo::new(u16::from(first) + place as u16))
+    match thread {
+        Some(k) => Some(SlotNo::new(u16::from(first) + k.place() as u16)),
+        None => None,
+    }
 }
 
 /// The threads before and after one in its queue, and the queue that it lies in.

@@ -33,15 +33,12 @@ unfolding plain_steps
 next_plain n thread s tick t plain zero lt = plain n (omega arith)
 next_plain n thread s tick t plain (suc k) lt = absurd (omega (arith, lt))
 
-well_by : (limits : Limits) (tick stop t n : ℕ) (thread : Thread) (s : Part) → RowKeepsWell limits tick stop t n thread s
-well_by limits tick stop t zero thread s quiet le within plain well = absurd (omega (arith, le))
-well_by limits tick stop t (suc zero) thread s quiet le within plain well = one_well limits tick stop t thread s quiet (omega (arith, within)) plain well
-well_by limits tick stop t (suc (suc n)) thread s quiet le within plain well =
+pub well_kept : (limits : Limits) (tick stop t n : ℕ) (thread : Thread) (s : Part) → RowKeepsWell limits tick stop t n thread s
+well_kept limits tick stop t zero thread s quiet le within plain well = absurd (omega (arith, le))
+well_kept limits tick stop t (suc zero) thread s quiet le within plain well = one_well limits tick stop t thread s quiet (omega (arith, within)) plain well
+well_kept limits tick stop t (suc (suc n)) thread s quiet le within plain well =
     let fewer : ArePlain (suc n) (core_of thread s) = λ k lt. plain k (omega (arith, lt)) in
-    let before : IsWell limits (after_row tick t (suc n) thread s) = well_by limits tick stop t (suc n) thread s quiet (omega arith) (omega (arith, within)) fewer well in
+    let before : IsWell limits (after_row tick t (suc n) thread s) = well_kept limits tick stop t (suc n) thread s quiet (omega arith) (omega (arith, within)) fewer well in
     let now : IsQuiet limits (tick + suc n) stop t (thread_after (suc n) thread s) (after_row tick t (suc n) thread s) = row_stays limits tick stop t (suc n) thread s quiet (omega arith) (omega (arith, within)) fewer in
     subst (IsWell limits) (part_more tick t (suc n) thread s)
     (one_well limits (tick + suc n) stop t (thread_after (suc n) thread s) (after_row tick t (suc n) thread s) now (omega (arith, within)) (next_plain (suc n) thread s tick t plain) before)
-
-pub well_kept : (limits : Limits) (tick stop t n : ℕ) (thread : Thread) (s : Part) → RowKeepsWell limits tick stop t n thread s
-well_kept limits tick stop t n thread s quiet le within plain well = well_by limits tick stop t n thread s quiet le within plain well
