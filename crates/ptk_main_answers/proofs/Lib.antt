@@ -1,3 +1,5 @@
 pub mod Images
 pub mod Refusals
 pub mod Runs
+pub mod JsonTexts
+pub mod Documents

@@ -14,6 +14,7 @@ use Rattle.ptk_main_faults.specs.Told.{text, told}
 use Rattle.ptk_main_line.specs.declared.requests.FailOn.{FailOn}
 use Rattle.ptk_main_line.specs.declared.requests.Format.{Format}
 use Rattle.ptk_main_line.specs.declared.requests.Format.TheVariants as form
+use Rattle.ptk_main_answers.specs.Documents.{document_text}
 use Rattle.ptk_main_answers.specs.Images.{part_name}
 use Rattle.ptk_main_answers.specs.declared.run.RunQuestion.{RunQuestion}
 
@@ -60,16 +61,21 @@ pub record IsEnd (question : RunQuestion) (world : World) : Type 0 where
   pub within : world.tick ≤ question.ticks
   pub end : (world.tick ≡ question.ticks) ⊎ (IsTrue question.until_halted × AreHalted world)
 
--- the bytes are a report of the system in this form: in lines they are its report (own)
+-- the report of a system in a form (own)
+abbrev pub report_in : Format → World → List ℕ
+report_in form.Text world = report_of world
+report_in form.Json world = document_text world
+
+-- the bytes are the report of the system in this form (own)
 abbrev pub IsReport : Format → World → List ℕ → Type 0
-IsReport format world bytes = format ≡ form.Text → bytes ≡ report_of world
+IsReport format world bytes = bytes ≡ report_in format world
 
 -- what a writer got is the report of the system, and is what was expected (own)
 pub record IsReported (question : RunQuestion) (world : World) (old new : Option (List ℕ)) : Type 0 where
-  pub report : question.format ≡ form.Text → Appends old new (report_of world)
+  pub report : Appends old new (report_in question.format world)
   pub expected : IfSome question.expected (λ bytes. IsReport question.format world bytes.now × Appends old new bytes.now)
 
--- what a writer got is a report of the system, and the fault says where it is first not what was expected (own)
+-- what a writer got is the report of the system, and the fault says where it is first not what was expected (own)
 abbrev pub IsUnlike : RunQuestion → World → Option (List ℕ) → Option (List ℕ) → Fault → Type 0
 IsUnlike question world old new fault = IsSomeAnd question.expected (λ bytes. (report : List ℕ)
     × IsReport question.format world report × Appends old new report × IsFirstDifference report bytes.now fault)

@@ -4,4 +4,6 @@ pub mod Answers
 pub mod Expectations
 pub mod Decoded
 pub mod HostFaults
+pub mod Json
+pub mod Documents
 pub use Rattle.ptk_main_runs.specs.Parts

@@ -1,45 +1,81 @@
-//! JSON objects: the report of a run, and the answer to a check.
+//! The report of a run as one JSON object.
 
-ghost use Rattle.std.specs.Prelude.{◌≡◌, ◌<◌, IfErr, IfOk, length, string_bytes};
+ghost use Rattle.std.specs.Prelude.{◌≡◌, ◌<◌, ◌++◌, IfErr, IfOk, OnOk, length, nat_lt, string_bytes};
+ghost use Rattle.std.specs.Io.KnownBytes.{Appends};
+ghost use Rattle.base64.specs.Engines.{standard};
+ghost use Rattle.base64.specs.GeneralPurpose.{encode_of};
 ghost use Rattle.json.specs.Lex.{tokens};
 ghost use Rattle.json.specs.Print.{print};
+ghost use Rattle.serde_json.specs.Written.{comma_if, compact_text};
+ghost use Rattle.ptk_main_runs.specs.Members.{SendsAll};
+ghost use Rattle.ptk_main_answers.specs.Documents.{document_beginning, document_text, joined_text, part_text, partition_data, parts_data, status_members};
 ghost use Rattle.ptk_main_answers.specs.HostFaults.{IsHostFault};
+ghost use Rattle.ptk_main_answers.specs.Json.{members_events, members_of, value_events};
 
+use crate::naming::part_name;
+use crate::text::{json_text, put_bytes};
 use base64::engine::general_purpose::STANDARD;
 use ptk_main_faults::Fault;
-use ptk_main_runs::{PartStatus, System, cause_word, status_word};
+use ptk_main_runs::{PartStatus, System, Value, cause_word, put_members};
 use ptk_words::PartId;
-use serde::Serialize;
-use std::alloc::{AllocError, Global};
-use std::io;
+use serde::{Described, Serialize, Serializer};
+use std::alloc::Global;
 use std::io::Write;
 
-/// A partition's part of the report. What its status has no value for is left out.
-#[derive(Clone, Copy, Serialize)]
+/// A partition's part of the report, with its output in Base64.
+#[derive(Clone, Copy)]
 struct Partition<'a> {
     name: &'a str,
-    status: &'static str,
-    #[serde(skip_serializing_if = "Option::is_none")]
-    code: Option<u8>,
-    #[serde(skip_serializing_if = "Option::is_none")]
-    cause: Option<&'static str>,
-    #[serde(skip_serializing_if = "Option::is_none")]
-    pc: Option<u32>,
-    #[serde(skip_serializing_if = "Option::is_none")]
-    image_fault: Option<u8>,
+    status: PartStatus,
     steps: u64,
     lost: u64,
     output: &'a str,
 }
 
-/// The answer to a check. What does not apply is left out.
-#[derive(Clone, Copy, Serialize)]
-struct Check<'a> {
-    format: &'static str,
-    answer: &'static str,
-    #[serde(skip_serializing_if = "Option::is_none")]
-    fault: Option<&'a str>,
-    explanation: &'a str,
+impl Described for Partition<'_> {
+    ghost writes = { λ p. SendsAll (value_events (partition_data p.name.now p.status p.steps p.lost p.output.now)) };
+}
+
+impl Serialize for Partition<'_> {
+    fn serialize<S: Serializer>(&self, out: &mut S) -> Result<(), S::Error> {
+        let counts = [
+            ("steps", Value::Number(self.steps)),
+            ("lost", Value::Number(self.lost)),
+            ("output", Value::Word(self.output)),
+        ];
+        out.begin_map(None)?;
+        put_members(&[("name", Value::Word(self.name))], out)?;
+        put_status(self.status, out)?;
+        put_members(&counts, out)?;
+        out.end_map()
+    }
+}
+
+/// Puts the members of a status. An error where `out` gives one.
+fn put_status<S: Serializer>(status: PartStatus, out: &mut S) -> Result<(), S::Error>
+    ensures { OnOk result (SendsAll (members_events (members_of (status_members status))) (S.written out.old) (S.written out.new)) }
+{
+    match status {
+        PartStatus::Idle => put_members(&[("status", Value::Word("idle"))], out),
+        PartStatus::Running => put_members(&[("status", Value::Word("running"))], out),
+        PartStatus::Exited(code) => {
+            let code = Value::Number(u64::from(code));
+            put_members(&[("status", Value::Word("exit")), ("code", code)], out)
+        }
+        PartStatus::Stopped(cause, pc) => {
+            let members = [
+                ("status", Value::Word("fault")),
+                ("cause", Value::Word(cause_word(cause))),
+                ("pc", Value::Number(u64::from(pc))),
+            ];
+            put_members(&members, out)
+        }
+        PartStatus::Refused(fault) => {
+            let number = Value::Number(u64::from(fault.number()));
+            let members = [("status", Value::Word("refused")), ("image_fault", number)];
+            put_members(&members, out)
+        }
+    }
 }
 
 /// Writes the report of a system as one JSON object and a newline, a partition at a time. A fault where memory was
@@ -49,31 +85,72 @@ pub(crate) fn put_document<W: Write>(
     system: &System<'_>,
     out: &mut W,
 ) -> Result<(), Fault<'static>>
-    ensures { IfErr result IsHostFault }
+    ensures written { OnOk result (Appends (W.contents out.old) (W.contents out.new) (document_text system.now)) }
+    ensures failed { IfErr result IsHostFault }
 {
-    let tick = system.tick().ticks();
-    written(write!(
-        out,
-        "{{\"format\":\"ptk run 1\",\"ticks\":{tick},\"partitions\":["
-    ))?;
-    for i in 0..system.parts() {
-        if i > 0 {
-            written(out.write_all(b","))?;
-        }
-        let text = json_of(alloc, system, PartId::new(i as u8))?;
-        written(out.write_all(text.as_bytes()))?;
-    }
-    written(out.write_all(b"]}\n"))
+    put_beginning(system.tick().ticks(), out)?;
+    put_partitions(alloc, system, out)?;
+    put_bytes(b"]}\n", out)
 }
 
-/// The outcome of a write.
-fn written(outcome: io::Result<()>) -> Result<(), Fault<'static>>
-    ensures { IfErr result IsHostFault }
+/// Writes the beginning of the report, up to its partitions. A fault where the writer failed.
+fn put_beginning<W: Write>(tick: u64, out: &mut W) -> Result<(), Fault<'static>>
+    ensures written { OnOk result (Appends (W.contents out.old) (W.contents out.new) (document_beginning tick)) }
+    ensures failed { IfErr result IsHostFault }
 {
+    let outcome = write!(
+        out,
+        "{{\"format\":\"ptk run 1\",\"ticks\":{tick},\"partitions\":["
+    );
     match outcome {
         Ok(()) => Ok(()),
         Err(_) => Err(Fault::WriteFailed),
     }
+}
+
+/// Writes the parts of all partitions, with commas between them. A fault where memory was refused or the writer failed.
+#[tactic(auto, using(crate::proofs::Documents::documents))]
+fn put_partitions<W: Write>(
+    alloc: Global,
+    system: &System<'_>,
+    out: &mut W,
+) -> Result<(), Fault<'static>>
+    ensures written { OnOk result (Appends (W.contents out.old) (W.contents out.new) (joined_text (parts_data system.now))) }
+    ensures failed { IfErr result IsHostFault }
+{
+    for i in 0..system.parts() {
+        put_partition(alloc, system, PartId::new(i as u8), out)?;
+    }
+    Ok(())
+}
+
+/// Writes a partition's part, behind a comma where it is not the first. A fault where memory was refused or the writer
+/// failed.
+fn put_partition<W: Write>(
+    alloc: Global,
+    system: &System<'_>,
+    p: PartId,
+    out: &mut W,
+) -> Result<(), Fault<'static>>
+    requires { p < length system.now.config.sections }
+    ensures written { OnOk result (Appends (W.contents out.old) (W.contents out.new) (comma_if (nat_lt 0 p) ++ part_text system.now p)) }
+    ensures failed { IfErr result IsHostFault }
+{
+    put_comma(p, out)?;
+    let text = json_of(alloc, system, p)?;
+    put_bytes(text.as_bytes(), out)
+}
+
+/// Writes a comma, but nothing for the first partition. A fault where the writer failed.
+#[tactic(auto, using(crate::proofs::Documents::documents))]
+fn put_comma<W: Write>(p: PartId, out: &mut W) -> Result<(), Fault<'static>>
+    ensures written { OnOk result (Appends (W.contents out.old) (W.contents out.new) (comma_if (nat_lt 0 p))) }
+    ensures failed { IfErr result IsHostFault }
+{
+    if p.index() == 0 {
+        return Ok(());
+    }
+    put_bytes(b",", out)
 }
 
 /// The JSON text of a partition's part of the report: an object in the compact form of its tokens, with no newline. A
@@ -81,104 +158,41 @@ fn written(outcome: io::Result<()>) -> Result<(), Fault<'static>>
 fn json_of(alloc: Global, system: &System<'_>, p: PartId) -> Result<String, Fault<'static>>
     requires { p < length system.now.config.sections }
     ensures form { IfOk result (λ text. string_bytes text ≡ print (tokens (string_bytes text))) }
+    ensures text { IfOk result (λ text. string_bytes text ≡ part_text system.now p) }
     ensures failed { IfErr result IsHostFault }
 {
-    let output = STANDARD.encode(alloc, system.output(p))?;
-    let status = system.status(p);
-    let partition = Partition {
-        name: system.config().sections()[p.index()].name(),
-        status: status_word(status),
-        code: code_of(status),
-        cause: cause_of(status),
-        pc: pc_of(status),
-        image_fault: image_fault_of(status),
-        steps: system.steps(p),
-        lost: system.lost(p),
-        output: output.as_str(),
-    };
-    match serde_json::to_string(alloc, &partition) {
-        Ok(text) => Ok(text),
-        Err(_) => Err(Fault::NoMemory),
-    }
+    let name = part_name(system.config(), p);
+    partition_json(
+        alloc,
+        name,
+        system.status(p),
+        system.steps(p),
+        system.lost(p),
+        system.output(p),
+    )
 }
 
-/// The code that a partition exited with.
-fn code_of(status: PartStatus) -> Option<u8> {
-    match status {
-        PartStatus::Exited(code) => Some(code),
-        PartStatus::Idle | PartStatus::Running | PartStatus::Stopped(..) | PartStatus::Refused(_) =>
-            None,
-    }
-}
-
-/// What stopped a partition, as the report spells it.
-fn cause_of(status: PartStatus) -> Option<&'static str> {
-    match status {
-        PartStatus::Stopped(cause, _) => Some(cause_word(cause)),
-        PartStatus::Idle | PartStatus::Running | PartStatus::Exited(_) | PartStatus::Refused(_) =>
-            None,
-    }
-}
-
-/// The pc of the instruction that stopped a partition.
-fn pc_of(status: PartStatus) -> Option<u32> {
-    match status {
-        PartStatus::Stopped(_, pc) => Some(pc),
-        PartStatus::Idle | PartStatus::Running | PartStatus::Exited(_) | PartStatus::Refused(_) =>
-            None,
-    }
-}
-
-/// The number of the fault for which a partition's image was refused.
-fn image_fault_of(status: PartStatus) -> Option<u8> {
-    match status {
-        PartStatus::Refused(fault) => Some(fault.number()),
-        PartStatus::Idle | PartStatus::Running | PartStatus::Exited(_) | PartStatus::Stopped(..) =>
-            None,
-    }
-}
-
-/// Writes the answer to a check as one JSON object and a newline: `ok`, or the line of the fault for which the
-/// configuration or an image is refused, and what `check --explain` says.
-pub fn check_document<W: Write>(
+/// The JSON text of a partition's part of the report, by its name, its status, its counts and its output. A fault where
+/// memory was refused.
+fn partition_json(
     alloc: Global,
-    fault: Option<&Fault<'_>>,
-    explanation: &str,
-    out: &mut W,
-) -> Result<(), Fault<'static>> {
-    let text = match fault {
-        None => check_json(alloc, "ok", None, explanation)?,
-        Some(fault) => {
-            let line = line_of(alloc, fault)?;
-            check_json(alloc, "refused", Some(line.as_str()), explanation)?
-        }
-    };
-    written(out.write_all(text.as_bytes()))?;
-    written(out.write_all(b"\n"))
-}
-
-/// The line of a fault.
-fn line_of(alloc: Global, fault: &Fault<'_>) -> Result<String, AllocError> {
-    format!(in alloc; "{fault}")
-}
-
-/// The JSON text of the answer to a check.
-fn check_json(
-    alloc: Global,
-    answer: &'static str,
-    fault: Option<&str>,
-    explanation: &str,
+    name: &str,
+    status: PartStatus,
+    steps: u64,
+    lost: u64,
+    output: &[u8],
 ) -> Result<String, Fault<'static>>
-    ensures { IfOk result (λ text. string_bytes text ≡ print (tokens (string_bytes text))) }
+    ensures form { IfOk result (λ text. string_bytes text ≡ print (tokens (string_bytes text))) }
+    ensures text { IfOk result (λ text. string_bytes text ≡ compact_text (partition_data name.now status steps lost (encode_of standard output.now))) }
+    ensures failed { IfErr result IsHostFault }
 {
-    let check = Check {
-        format: "ptk check 1",
-        answer,
-        fault,
-        explanation,
+    let encoded = STANDARD.encode(alloc, output)?;
+    let partition = Partition {
+        name,
+        status,
+        steps,
+        lost,
+        output: encoded.as_str(),
     };
-    match serde_json::to_string(alloc, &check) {
-        Ok(text) => Ok(text),
-        Err(_) => Err(Fault::NoMemory),
-    }
+    json_text(alloc, &partition)
 }

@@ -3,10 +3,12 @@
 //! What each request over a configuration writes, on any writer, as lines or JSON, once the files are read; among it a
 //! partition's trace with each step in words, its symbol, and the names of calls and replies (`decoded_trace_with`).
 //!
-//! - `run_answer` writes the report of the booted configuration after the ticks asked for, where it is asked for in
-//!   lines and to no earlier end (`written`); it succeeds only where that is the expected report (`expected`) and no
-//!   partition is of a kind to fail on (`passed`). On request it ends at a tick at which every partition has halted, or
-//!   at the last one, and in each form what it wrote is what is expected (`ended`).
+//! - `run_answer` writes the report of the booted configuration after the ticks asked for, in the form asked for,
+//!   where it is asked for to no earlier end (`written`); it succeeds only where that is the expected report
+//!   (`expected`) and no partition is of a kind to fail on (`passed`). On request it ends at a tick at which every
+//!   partition has halted, or at the last one, and what it wrote is what is expected (`ended`).
+//! - As JSON the report is the text of one object, with no space, and a newline (`document_text`): each partition's
+//!   name, status, steps, lost ticks, and output in Base64.
 //! - Where no image is missing its fault is out of memory, a failed write, the first byte at which the report that it
 //!   wrote is not the expected one, or else the first partition of a kind to fail on (`failed`).
 //! - `trace_answer` writes the named partition's trace, `check_with` `ok` and a newline.
@@ -15,7 +17,8 @@
 //!   where nothing is refused (`refused`).
 //! - `difference` is the first byte at which a report is not the expected one, with its line and both bytes, and none
 //!   if and only if they are the same.
-//! - Of JSON objects the clauses say only their form (an object is the compact text of its own tokens).
+//! - `check_document` writes the answer to a check as JSON: `ok`, or the line of the fault, and the explanation
+//!   (`written`).
 //! - `explain_with` returns a text's first fault with its place, and writes what `explain` does (`written`).
 //! - `decoded_answer` promises its refusals alone.
 //! - Of a trace in words `shows` is the definition's choice of steps (`is_shown`), and `push_decoded` appends the
@@ -45,14 +48,16 @@ mod naming;
 mod replies;
 mod run;
 mod steps;
+mod text;
+mod verdict;
 
 pub use answer::{decoded_answer, trace_answer};
 pub use check::check_with;
 pub use decoding::decoded_trace_with;
-pub use document::check_document;
 pub use expectation::difference;
 pub use explanation::explain_with;
 pub use filter::Filter;
 pub use naming::{boot_fault, run_fault};
 pub use ptk_main_runs::{Files, RunFault, System, part_named, run_with, trace_with};
 pub use run::{RunQuestion, Watch, run_answer};
+pub use verdict::check_document;

@@ -3,9 +3,8 @@
 ghost use Rattle.std.specs.Prelude.{◌≡◌, ◌≤◌, ◌<◌, ◌⊎◌, ℕ, None, IfErr, IfSome, OnOk, MatchResult, IsTrue, false};
 ghost use Rattle.std.specs.Io.KnownBytes.{Appends};
 ghost use Rattle.ptk_words.specs.declared.TheConstants.{LAST_TICK};
-ghost use Rattle.ptk_main_runs.specs.Shown.{report_of};
 ghost use Rattle.ptk_main_runs.specs.World.{at_tick, world_at};
-ghost use Rattle.ptk_main_answers.specs.Expectations.{AreHalted, IsFailed, IsNoFailure, IsPassed, IsReported, IsUnlike};
+ghost use Rattle.ptk_main_answers.specs.Expectations.{AreHalted, IsFailed, IsNoFailure, IsPassed, IsReported, IsUnlike, report_in};
 ghost use Rattle.ptk_main_answers.specs.HostFaults.{IsHostFault};
 ghost use Rattle.ptk_main_answers.specs.Refusals.{IsFaultOf, missing_image};
 
@@ -59,10 +58,10 @@ pub fn run_answer<'a, V: Watch, W: Write>(
     out: &mut W,
 ) -> Result<(), Fault<'a>>
     requires { question.now.ticks ≤ LAST_TICK }
-    ensures written { OnOk result (question.now.until_halted ≡ false → question.now.format ≡ Format.Text →
-        Appends (W.contents out.old) (W.contents out.new) (report_of (world_at config.now files.now question.now.ticks))) }
-    ensures expected { OnOk result (question.now.until_halted ≡ false → question.now.format ≡ Format.Text →
-        IfSome question.now.expected (λ bytes. bytes.now ≡ report_of (world_at config.now files.now question.now.ticks))) }
+    ensures written { OnOk result (question.now.until_halted ≡ false →
+        Appends (W.contents out.old) (W.contents out.new) (report_in question.now.format (world_at config.now files.now question.now.ticks))) }
+    ensures expected { OnOk result (question.now.until_halted ≡ false →
+        IfSome question.now.expected (λ bytes. bytes.now ≡ report_in question.now.format (world_at config.now files.now question.now.ticks))) }
     ensures passed { OnOk result (question.now.until_halted ≡ false →
         IsNoFailure question.now.fail_on (world_at config.now files.now question.now.ticks)) }
     ensures ended { OnOk result ((n : ℕ) × IsPassed question.now (world_at config.now files.now n) (W.contents out.old) (W.contents out.new)) }
@@ -167,7 +166,7 @@ fn put_report<W: Write>(
     format: Format,
     out: &mut W,
 ) -> Result<(), Fault<'static>>
-    ensures written { OnOk result (format ≡ Format.Text → Appends (W.contents out.old) (W.contents out.new) (report_of system.now)) }
+    ensures written { OnOk result (Appends (W.contents out.old) (W.contents out.new) (report_in format system.now)) }
     ensures failed { IfErr result IsHostFault }
 {
     match format {

@@ -1,0 +1,37 @@
+//! The text of a JSON object, and the bytes of an answer.
+
+ghost use Rattle.std.specs.Prelude.{◌≡◌, [], IfErr, IfOk, OnOk, Some, string_bytes};
+ghost use Rattle.std.specs.Io.KnownBytes.{Appends};
+ghost use Rattle.json.specs.Lex.{tokens};
+ghost use Rattle.json.specs.Print.{print};
+ghost use Rattle.serde.specs.Event.{Log};
+ghost use Rattle.serde_json.specs.Sent.{IsTextOf};
+ghost use Rattle.ptk_main_answers.specs.HostFaults.{IsHostFault};
+
+use ptk_main_faults::Fault;
+use serde::Serialize;
+use std::alloc::Global;
+use std::io::Write;
+
+/// The JSON text of a value: the compact form of its tokens, with no newline. A fault where memory was refused.
+pub(crate) fn json_text<T: Serialize>(alloc: Global, value: &T) -> Result<String, Fault<'static>>
+    ensures events { IfOk result (λ text. (log : Log) × T.writes value.now (Some []) log × IsTextOf log (string_bytes text)) }
+    ensures form { IfOk result (λ text. string_bytes text ≡ print (tokens (string_bytes text))) }
+    ensures failed { IfErr result IsHostFault }
+{
+    match serde_json::to_string(alloc, value) {
+        Ok(text) => Ok(text),
+        Err(_) => Err(Fault::NoMemory),
+    }
+}
+
+/// Writes bytes. A fault where the writer failed.
+pub(crate) fn put_bytes<W: Write>(bytes: &[u8], out: &mut W) -> Result<(), Fault<'static>>
+    ensures written { OnOk result (Appends (W.contents out.old) (W.contents out.new) bytes.now) }
+    ensures failed { IfErr result IsHostFault }
+{
+    match out.write_all(bytes) {
+        Ok(()) => Ok(()),
+        Err(_) => Err(Fault::WriteFailed),
+    }
+}
