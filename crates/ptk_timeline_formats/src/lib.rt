@@ -6,6 +6,10 @@
 //!   `shown_in`); ticks never fall (`from`, `within` of `Sheet::put`).
 //! - The step that takes up a partition's ticks is its last one, where it made one since the last look, up to the next
 //!   decision or the window's end (`step` of `Step::since`: `step_since`).
+//! - The status and the running thread that are shown of a partition are the system's; while a step takes up its ticks
+//!   the partition is running, with the step's thread (`kept` of `PartView::new`, `show` and `settle`: `status_shown`,
+//!   `runner_shown`). Behind a decision the step, and the counts of steps, of lost ticks and of lost input, are the
+//!   system's (`kept` of `PartView::decide`, `go_on` and `mark`: `kept_in`, `step_within`).
 //! - The refusals are the definition's (`order` to `silent` of `dump_with`).
 //! - What a Value Change Dump has of changes is the definition's, tick by tick (`dump` of `Sheet::put_each`). What is
 //!   before the first of them is tested, and so are the bytes of trace events.

@@ -1,10 +1,10 @@
 //! The step of a partition that takes up its ticks.
 
-ghost use Rattle.std.specs.Prelude.{◌≡◌, ◌+◌, ◌<◌, ◌≤◌, IfSome, length};
+ghost use Rattle.std.specs.Prelude.{◌≡◌, ◌+◌, ◌<◌, ◌≤◌, Some, IfSome, length};
 ghost use Rattle.ptk_words.specs.declared.TheConstants.{LAST_TICK};
 ghost use Rattle.ptk_main_runs.specs.World.{state_of};
 ghost use Rattle.ptk_timeline_formats.specs.Shown.{is_step_of};
-ghost use Rattle.ptk_timeline_formats.specs.Steps.{step_end, step_since};
+ghost use Rattle.ptk_timeline_formats.specs.Steps.{is_step_over, step_end, step_since, step_within, tick_behind_step};
 
 use ptk_main_runs::System;
 use ptk_words::{PartId, ThreadNo};
@@ -31,6 +31,7 @@ impl Step {
     pub(crate) fn end_of(step: &Option<Step>, tick: u64, end: u64) -> u64
         requires step { IfSome step.now (λ step. (tick < step.until) × (step.until ≤ end)) }
         requires within { tick < end }
+        ensures behind { result ≡ tick_behind_step tick step.now }
         ensures from { tick < result }
         ensures to { result ≤ end }
     {
@@ -38,6 +39,14 @@ impl Step {
             Some(step) => step.until,
             None => tick + 1,
         }
+    }
+
+    /// Whether what it has made of its thread is shown from its end on: it ends before the tick `due`, at which the
+    /// next change can come, or that is the window's end.
+    pub(crate) fn is_over(&self, due: u64, end: u64) -> bool
+        ensures { result ≡ is_step_over due end (Some self.now) }
+    {
+        self.until < due || due == end
     }
 
     /// The last step of a partition that has made one since it had made this many, None where it has made none: it goes
@@ -62,6 +71,26 @@ impl Step {
         let thread = system.last_step(p)?.thread;
         let until = step_end(system, p, tick, end);
         Some(Step { thread, until })
+    }
+
+    /// The same, and None where the tick is the window's end.
+    pub(crate) fn within(
+        system: &System<'_>,
+        p: PartId,
+        steps: u64,
+        tick: u64,
+        end: u64,
+    ) -> Option<Step>
+        requires partition { p < length system.now.config.sections }
+        requires within { tick ≤ end }
+        ensures step { result ≡ step_within steps tick end (state_of system.now p) }
+        ensures from { IfSome result (λ step. tick < step.until) }
+        ensures to { IfSome result (λ step. step.until ≤ end) }
+    {
+        if tick == end {
+            return None;
+        }
+        Step::since(system, p, steps, tick, end)
     }
 }
 

@@ -1,7 +1,7 @@
 //! What is shown of a partition's threads.
 
-ghost use Rattle.std.specs.Prelude.{◌≡◌, ◌+◌, ◌<◌, ◌≤◌, IfOk, OnOk, length};
-ghost use Rattle.ptk_words.specs.declared.TheConstants.{LAST_TICK};
+ghost use Rattle.std.specs.Prelude.{◌≡◌, ◌+◌, ◌<◌, ◌≤◌, None, All, IfOk, OnOk, length, min, vec_len};
+ghost use Rattle.ptk_words.specs.declared.TheConstants.{LAST_TICK, THREAD_LIMIT};
 ghost use Rattle.ptk_main_runs.specs.World.{state_of};
 ghost use Rattle.ptk_timeline_formats.specs.Shown.{AreShown, is_step_of, shown_in};
 
@@ -22,6 +22,9 @@ pub(crate) fn first_threads(
     threads: u32,
 ) -> Result<Vec<ShownSince>, AllocError>
     requires { p < length system.now.config.sections }
+    ensures shown { IfOk result (λ kept. AreShown None (state_of system.now p).part kept.items) }
+    ensures since { IfOk result (λ kept. All (λ thread. thread.since ≡ system.now.tick) kept.items) }
+    ensures count { IfOk result (λ kept. vec_len kept ≡ min threads THREAD_LIMIT) }
 {
     let since = system.tick().ticks();
     let mut kept = Vec::new(alloc);

@@ -1,9 +1,10 @@
 //! What is shown of a partition.
 
-ghost use Rattle.std.specs.Prelude.{◌≡◌, ◌+◌, ◌<◌, ◌≤◌, IfOk, IfSome, OnOk, length};
-ghost use Rattle.ptk_words.specs.declared.TheConstants.{LAST_TICK};
+ghost use Rattle.std.specs.Prelude.{◌≡◌, ◌+◌, ◌<◌, ◌≤◌, ⊤, None, Some, IfOk, IfSome, MatchBool, MatchOption, OnOk, length, min, vec_len};
+ghost use Rattle.ptk_words.specs.declared.TheConstants.{LAST_TICK, THREAD_LIMIT};
 ghost use Rattle.ptk_main_runs.specs.World.{state_of};
-ghost use Rattle.ptk_timeline_formats.specs.Shown.{AreShown};
+ghost use Rattle.ptk_timeline_formats.specs.Shown.{AreShown, kept_in, runner_shown, start_in, status_shown};
+ghost use Rattle.ptk_timeline_formats.specs.Steps.{is_step_over, step_since, step_within, tick_behind_step};
 
 use crate::change::{Change, ShownSince};
 use crate::sheet::Sheet;
@@ -38,6 +39,9 @@ impl PartView {
         threads: u32,
     ) -> Result<PartView, AllocError>
         requires { p < length system.now.config.sections }
+        ensures kept { IfOk result (λ view. view ≡ kept_in None (state_of system.now p) view) }
+        ensures shown { IfOk result (λ view. AreShown None (state_of system.now p).part view.threads.items) }
+        ensures count { IfOk result (λ view. vec_len view.threads ≡ min threads THREAD_LIMIT) }
     {
         Ok(PartView {
             status: system.status(p),
@@ -150,12 +154,22 @@ impl PartView {
         ensures within { sheet.new.at ≤ due }
         ensures to { sheet.new.to ≡ sheet.old.to }
         ensures step { self.new.step ≡ self.old.step }
+        ensures kept { MatchBool (is_step_over due end self.old.step)
+            (self.new ≡ record self.old {
+              status = status_shown None (state_of system.now p).part;
+              runner = runner_shown None (state_of system.now p).part;
+              threads = self.new.threads;
+            })
+            ((self.new ≡ self.old) × (sheet.new ≡ sheet.old) × (out.new ≡ out.old)) }
+        ensures shown { MatchBool (is_step_over due end self.old.step)
+            (OnOk result (AreShown None (state_of system.now p).part self.new.threads.items)) ⊤ }
+        ensures count { vec_len self.new.threads ≡ vec_len self.old.threads }
     {
         let Some(step) = &self.step else {
             return Ok(());
         };
         let until = step.until;
-        if until < due || due == end {
+        if step.is_over(due, end) {
             return self.show(system, p, &None, until, sheet, out);
         }
         Ok(())
@@ -178,6 +192,11 @@ impl PartView {
         ensures within { sheet.new.at ≤ tick }
         ensures to { sheet.new.to ≡ sheet.old.to }
         ensures step { OnOk result (IfSome self.new.step (λ step. (tick < step.until) × (step.until ≤ end))) }
+        ensures kept { OnOk result (self.new ≡
+            kept_in (step_since self.old.steps tick end (state_of system.now p)) (state_of system.now p) self.new) }
+        ensures shown { OnOk result (AreShown
+            (step_since self.old.steps tick end (state_of system.now p)) (state_of system.now p).part self.new.threads.items) }
+        ensures count { vec_len self.new.threads ≡ vec_len self.old.threads }
     {
         let step = Step::since(system, p, self.steps, tick, end);
         self.show(system, p, &step, tick, sheet, out)?;
@@ -207,17 +226,30 @@ impl PartView {
         ensures step { OnOk result (IfSome self.new.step (λ step. (sheet.new.at ≤ step.until) × (step.until ≤ end))) }
         ensures within { sheet.new.at ≤ end }
         ensures to { sheet.new.to ≡ sheet.old.to }
+        ensures behind { IfOk result (λ begin. begin ≡ tick_behind_step tick self.old.step) }
+        ensures kept { let begin = tick_behind_step tick self.old.step in
+            MatchOption (step_within self.old.steps begin end (state_of system.now p))
+            ((self.new ≡ self.old) × (sheet.new ≡ sheet.old) × (out.new ≡ out.old))
+            (λ step. OnOk result (self.new ≡ record self.old {
+              status = status_shown (Some step) (state_of system.now p).part;
+              runner = runner_shown (Some step) (state_of system.now p).part;
+              threads = self.new.threads;
+              step = Some step;
+              steps = (state_of system.now p).account.steps;
+            })) }
+        ensures shown { let begin = tick_behind_step tick self.old.step in
+            IfSome (step_within self.old.steps begin end (state_of system.now p))
+            (λ step. OnOk result (AreShown (Some step) (state_of system.now p).part self.new.threads.items)) }
+        ensures count { vec_len self.new.threads ≡ vec_len self.old.threads }
     {
         let begin = Step::end_of(&self.step, tick, end);
-        if begin == end {
+        let step = Step::within(system, p, self.steps, begin, end);
+        if step.is_none() {
             return Ok(begin);
         }
-        let step = Step::since(system, p, self.steps, begin, end);
-        if step.is_some() {
-            self.show(system, p, &step, begin, sheet, out)?;
-            self.steps = system.steps(p);
-            self.step = step;
-        }
+        self.show(system, p, &step, begin, sheet, out)?;
+        self.steps = system.steps(p);
+        self.step = step;
         Ok(begin)
     }
 
@@ -238,7 +270,13 @@ impl PartView {
         ensures within { sheet.new.at ≤ tick }
         ensures to { sheet.new.to ≡ sheet.old.to }
         ensures step { self.new.step ≡ self.old.step }
+        ensures kept { self.new ≡ record self.old {
+          status = status_shown step.now (state_of system.now p).part;
+          runner = runner_shown step.now (state_of system.now p).part;
+          threads = self.new.threads;
+        } }
         ensures shown { OnOk result (AreShown step.now (state_of system.now p).part self.new.threads.items) }
+        ensures count { vec_len self.new.threads ≡ vec_len self.old.threads }
     {
         let (status, runner) = (status_of(system, p, step), runner_of(system, p, step));
         let changes = [
@@ -267,6 +305,10 @@ impl PartView {
         ensures within { sheet.new.at ≤ tick }
         ensures to { sheet.new.to ≡ sheet.old.to }
         ensures step { self.new.step ≡ self.old.step }
+        ensures kept { self.new ≡ record self.old {
+          lost = (state_of system.now p).account.lost;
+          dropped = (state_of system.now p).part.console.dropped;
+        } }
     {
         let (lost, dropped) = (system.lost(p), system.dropped(p));
         let ticks = lost.saturating_sub(self.lost);
@@ -294,6 +336,7 @@ fn due(system: &System<'_>, p: PartId, tick: u64, end: u64) -> u64
 /// The pc of a thread at tick 0, at which it has not begun; None at another tick.
 fn start_of(system: &System<'_>, p: PartId, t: ThreadNo, tick: u64) -> Option<u32>
     requires { p < length system.now.config.sections }
+    ensures { result ≡ start_in tick t (state_of system.now p).part }
 {
     if tick == 0 { system.pc(p, t) } else { None }
 }
@@ -301,6 +344,7 @@ fn start_of(system: &System<'_>, p: PartId, t: ThreadNo, tick: u64) -> Option<u3
 /// The status of a partition, which runs while a step takes up its ticks.
 fn status_of(system: &System<'_>, p: PartId, step: &Option<Step>) -> PartStatus
     requires { p < length system.now.config.sections }
+    ensures { result ≡ status_shown step.now (state_of system.now p).part }
 {
     if step.is_some() {
         PartStatus::Running
@@ -312,6 +356,7 @@ fn status_of(system: &System<'_>, p: PartId, step: &Option<Step>) -> PartStatus
 /// The running thread, which is that of the step that takes up its ticks; None where none runs.
 fn runner_of(system: &System<'_>, p: PartId, step: &Option<Step>) -> Option<ThreadNo>
     requires { p < length system.now.config.sections }
+    ensures { result ≡ runner_shown step.now (state_of system.now p).part }
 {
     match step {
         Some(step) => Some(step.thread),
