@@ -1,8 +1,8 @@
 //! What is shown of a partition.
 
-ghost use Rattle.std.specs.Prelude.{◌≡◌, ◌+◌, ◌<◌, ◌≤◌, ⊤, None, Some, IfOk, IfSome, MatchBool, MatchOption, OnOk, length, min, vec_len};
+ghost use Rattle.std.specs.Prelude.{◌≡◌, ℕ, ◌+◌, ◌<◌, ◌≤◌, ⊤, None, Some, IfOk, IfSome, MatchBool, MatchOption, OnOk, length, min, vec_len};
 ghost use Rattle.ptk_words.specs.declared.TheConstants.{LAST_TICK, THREAD_LIMIT};
-ghost use Rattle.ptk_main_runs.specs.World.{state_of};
+ghost use Rattle.ptk_main_runs.specs.World.{at_tick, but_next, state_of};
 ghost use Rattle.ptk_timeline_formats.specs.Shown.{AreShown, kept_in, runner_shown, start_in, status_shown};
 ghost use Rattle.ptk_timeline_formats.specs.Steps.{is_step_over, step_since, step_within, tick_behind_step};
 
@@ -329,6 +329,8 @@ fn due(system: &System<'_>, p: PartId, tick: u64, end: u64) -> u64
     requires order { tick ≤ end }
     ensures from { tick ≤ result }
     ensures to { result ≤ end }
+    ensures stays { (k : ℕ) → system.now.tick ≤ k → tick < k → k ≤ result →
+        but_next (state_of (at_tick k system.now) p) ≡ but_next (state_of system.now p) }
 {
     system.stays_until(p, Tick::new(end)).ticks().max(tick)
 }
