@@ -107,6 +107,7 @@ impl<'a, 's> Sheet<'a, 's> {
     ) -> Result<(), PutFault>
         requires from { self.old.at ≤ tick }
         requires to { tick ≤ self.old.to }
+        ensures from { self.old.at ≤ self.new.at }
         ensures within { self.new.at ≤ tick }
         ensures to { self.new.to ≡ self.old.to }
         ensures form { self.new.form ≡ self.old.form }
