@@ -2,4 +2,5 @@ pub mod Shown
 pub mod Steps
 pub mod Faults
 pub mod Signals
+pub mod Texts
 pub use Rattle.ptk_main_runs.specs.Missing

@@ -104,9 +104,27 @@ value_lines p (Woken by t) = []
 value_lines p (Lost ticks) = []
 value_lines p (Dropped bytes) = []
 
--- what a dump has of a change at a tick, whose last line is of tick `at`: first the line of the tick, where it is later (IEEE 1364-2005, 18.2.1)
+-- no thread has the number
+abbrev pub is_free : Doing → Bool
+is_free doing.Free = true
+is_free doing.Running = false
+is_free doing.Suspended = false
+is_free doing.Ready = false
+is_free (doing.Blocked wait) = false
+is_free doing.Ended = false
+is_free doing.Halted = false
+
+-- the lines of a thread that is shown otherwise than before: both, where no thread had the number, else those of what is another (own)
+abbrev pub shown_lines : ℕ → ℕ → Shown → Shown → List ℕ
+shown_lines p t before shown = if is_free before.doing then state_line p t shown ++ priority_line p t shown else thread_lines p t before shown
+
+-- lines of a tick, behind a line of tick `at`: first the line of the tick, where it is later (IEEE 1364-2005, 18.2.1)
+abbrev pub lines_at : ℕ → ℕ → List ℕ → List ℕ
+lines_at at tick lines = (if nat_lt at tick then tick_line tick else []) ++ lines
+
+-- what a dump has of a change at a tick, whose last line is of tick `at` (IEEE 1364-2005, 18.2.1)
 abbrev pub change_lines : ℕ → ℕ → ℕ → Change → List ℕ
-change_lines at tick p change = if is_signal change then (if nat_lt at tick then tick_line tick else []) ++ value_lines p change else []
+change_lines at tick p change = if is_signal change then lines_at at tick (value_lines p change) else []
 
 -- the tick of which a dump's last line is behind a change
 abbrev pub tick_behind : ℕ → ℕ → Change → ℕ
@@ -117,3 +135,9 @@ abbrev pub changes_lines : ℕ → ℕ → ℕ → List (Option Change) → List
 changes_lines at tick p [] = []
 changes_lines at tick p (None ∷ rest) = changes_lines at tick p rest
 changes_lines at tick p (Some change ∷ rest) = change_lines at tick p change ++ changes_lines (tick_behind at tick change) tick p rest
+
+-- the tick of which a dump's last line is behind changes, in their order
+abbrev pub tick_behind_all : ℕ → ℕ → List (Option Change) → ℕ
+tick_behind_all at tick [] = at
+tick_behind_all at tick (None ∷ rest) = tick_behind_all at tick rest
+tick_behind_all at tick (Some change ∷ rest) = tick_behind_all (tick_behind at tick change) tick rest

@@ -34,7 +34,7 @@ ghost use Rattle.std.specs.Prelude.{◌≡◌, ◌<◌, ◌≤◌, false, OnOk};
 ghost use Rattle.std.specs.Io.KnownBytes.{Appends};
 ghost use Rattle.ptk_words.specs.declared.TheConstants.{LAST_TICK};
 ghost use Rattle.ptk_timeline_formats.specs.declared.sheet.Form.TheVariants.{Vcd};
-ghost use Rattle.ptk_timeline_formats.specs.Signals.{change_lines, changes_lines, is_signal, tick_behind, tick_line};
+ghost use Rattle.ptk_timeline_formats.specs.Signals.{change_lines, changes_lines, is_signal, tick_behind, tick_behind_all, tick_line};
 
 impl Form {
     /// What is between the first values and what changes.
@@ -111,6 +111,7 @@ impl<'a, 's> Sheet<'a, 's> {
         ensures within { self.new.at ≤ tick }
         ensures to { self.new.to ≡ self.old.to }
         ensures form { self.new.form ≡ self.old.form }
+        ensures behind { self.old.form ≡ Vcd → OnOk result (self.new.at ≡ tick_behind_all self.old.at tick changes.now) }
         ensures dump { self.old.form ≡ Vcd → OnOk result (Appends (W.contents out.old) (W.contents out.new)
             (changes_lines self.old.at tick p changes.now)) }
     {

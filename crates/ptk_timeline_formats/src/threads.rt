@@ -1,9 +1,13 @@
 //! What is shown of a partition's threads.
 
-ghost use Rattle.std.specs.Prelude.{◌≡◌, ◌+◌, ◌<◌, ◌≤◌, None, All, IfOk, OnOk, length, min, vec_len};
+ghost use Rattle.std.specs.Prelude.{◌≡◌, ◌+◌, ◌<◌, ◌≤◌, None, All, IfOk, OnOk, if◌then◌else◌, length, min, take, vec_len};
+ghost use Rattle.std.specs.Io.KnownBytes.{Appends};
 ghost use Rattle.ptk_words.specs.declared.TheConstants.{LAST_TICK, THREAD_LIMIT};
 ghost use Rattle.ptk_main_runs.specs.World.{state_of};
+ghost use Rattle.ptk_timeline_formats.specs.declared.sheet.Form.TheVariants.{Vcd};
 ghost use Rattle.ptk_timeline_formats.specs.Shown.{AreShown, is_step_of, shown_in};
+ghost use Rattle.ptk_timeline_formats.specs.Signals.{lines_at, shown_lines};
+ghost use Rattle.ptk_timeline_formats.specs.Texts.{thread_text, threads_text};
 
 use crate::change::{Change, ShownSince};
 use crate::sheet::Sheet;
@@ -52,7 +56,11 @@ pub(crate) fn show_threads<W: Write>(
     requires to { tick ≤ sheet.old.to }
     ensures within { sheet.new.at ≤ tick }
     ensures to { sheet.new.to ≡ sheet.old.to }
+    ensures form { sheet.new.form ≡ sheet.old.form }
     ensures shown { OnOk result (AreShown step.now (state_of system.now p).part threads.new) }
+    ensures dump { sheet.old.form ≡ Vcd → OnOk result (Appends (W.contents out.old) (W.contents out.new)
+        (threads_text ⟦<Shown as PartialEq>⟧.eq (λ t. shown_in (is_step_of step.now t) t (state_of system.now p).part)
+        sheet.old.at tick p 1 (take THREAD_LIMIT threads.old))) }
 {
     for i in 0..threads.len().min(THREAD_LIMIT as usize) {
         let t = ThreadNo::new(i as u8 + 1);
@@ -77,22 +85,85 @@ fn show_thread<W: Write>(
     requires to { tick ≤ sheet.old.to }
     ensures within { sheet.new.at ≤ tick }
     ensures to { sheet.new.to ≡ sheet.old.to }
+    ensures form { sheet.new.form ≡ sheet.old.form }
     ensures shown { IfOk result (λ kept. kept.shown ≡ shown_in (is_step_of step.now t) t (state_of system.now p).part) }
+    ensures since { let after = shown_in (is_step_of step.now t) t (state_of system.now p).part in
+        IfOk result (λ thread. thread.since ≡ (if ⟦<Shown as PartialEq>⟧.eq after kept.now.shown then kept.now.since else tick)) }
+    ensures behind { let after = shown_in (is_step_of step.now t) t (state_of system.now p).part in
+        sheet.old.form ≡ Vcd → sheet.new.at ≡ (if ⟦<Shown as PartialEq>⟧.eq after kept.now.shown then sheet.old.at else tick) }
+    ensures dump { let after = shown_in (is_step_of step.now t) t (state_of system.now p).part in
+        sheet.old.form ≡ Vcd → OnOk result (Appends (W.contents out.old) (W.contents out.new)
+        (thread_text (⟦<Shown as PartialEq>⟧.eq after kept.now.shown) sheet.old.at tick p t kept.now.shown after)) }
 {
     let shown = Shown::of(system, p, t, step);
     if shown == kept.shown {
         let since = kept.since;
         return Ok(ShownSince { shown, since });
     }
-    let change = if matches!(kept.shown.doing, Doing::Free) {
-        Change::First(t, &shown, system.pc(p, t))
-    } else {
-        Change::Next(t, kept, &shown)
-    };
-    let waker = waker_of(t, &kept.shown.doing, &shown.doing, step, tick);
-    let woken = waker.map(|by| Change::Woken(by, t));
-    sheet.put_each(p, tick, &[Some(change), woken], out)?;
+    put_shown(kept, &shown, system, p, t, tick, sheet, out)?;
+    put_waking(
+        &kept.shown.doing,
+        &shown.doing,
+        p,
+        t,
+        step,
+        tick,
+        sheet,
+        out,
+    )?;
     Ok(ShownSince { shown, since: tick })
+}
+
+/// Writes what is shown of a thread of which something else was shown.
+fn put_shown<W: Write>(
+    kept: &ShownSince,
+    shown: &Shown,
+    system: &System<'_>,
+    p: PartId,
+    t: ThreadNo,
+    tick: u64,
+    sheet: &mut Sheet<'_, '_>,
+    out: &mut W,
+) -> Result<(), PutFault>
+    requires partition { p < length system.now.config.sections }
+    requires at { sheet.old.at ≤ tick }
+    requires to { tick ≤ sheet.old.to }
+    ensures within { sheet.new.at ≤ tick }
+    ensures to { sheet.new.to ≡ sheet.old.to }
+    ensures form { sheet.new.form ≡ sheet.old.form }
+    ensures behind { sheet.old.form ≡ Vcd → sheet.new.at ≡ tick }
+    ensures dump { sheet.old.form ≡ Vcd → OnOk result (Appends (W.contents out.old) (W.contents out.new)
+        (lines_at sheet.old.at tick (shown_lines p t kept.now.shown shown.now))) }
+{
+    if matches!(kept.shown.doing, Doing::Free) {
+        let start = system.pc(p, t);
+        return sheet.put(p, tick, &Change::First(t, shown, start), out);
+    }
+    sheet.put(p, tick, &Change::Next(t, kept, shown), out)
+}
+
+/// Writes which thread's step has ended the wait of a thread, where one has. A dump has nothing of it.
+fn put_waking<W: Write>(
+    before: &Doing,
+    after: &Doing,
+    p: PartId,
+    t: ThreadNo,
+    step: &Option<Step>,
+    tick: u64,
+    sheet: &mut Sheet<'_, '_>,
+    out: &mut W,
+) -> Result<(), PutFault>
+    requires at { sheet.old.at ≤ tick }
+    requires to { tick ≤ sheet.old.to }
+    ensures within { sheet.new.at ≤ tick }
+    ensures to { sheet.new.to ≡ sheet.old.to }
+    ensures form { sheet.new.form ≡ sheet.old.form }
+    ensures unseen { sheet.old.form ≡ Vcd → (out.new ≡ out.old) × (sheet.new ≡ sheet.old) }
+{
+    match waker_of(t, before, after, step, tick) {
+        Some(by) => sheet.put(p, tick, &Change::Woken(by, t), out),
+        None => Ok(()),
+    }
 }
 
 /// The thread whose step has ended the wait of another, where the wait has ended and neither came its deadline nor was

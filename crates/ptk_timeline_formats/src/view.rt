@@ -1,10 +1,13 @@
 //! What is shown of a partition.
 
-ghost use Rattle.std.specs.Prelude.{◌≡◌, ℕ, ◌+◌, ◌<◌, ◌≤◌, ⊤, None, Some, IfOk, IfSome, MatchBool, MatchOption, OnOk, length, min, vec_len};
+ghost use Rattle.std.specs.Prelude.{◌≡◌, ℕ, ◌+◌, ◌<◌, ◌≤◌, ⊤, [], None, Some, IfOk, IfSome, MatchBool, MatchOption, OnOk, length, min, vec_len};
+ghost use Rattle.std.specs.Io.KnownBytes.{Appends};
 ghost use Rattle.ptk_words.specs.declared.TheConstants.{LAST_TICK, THREAD_LIMIT};
 ghost use Rattle.ptk_main_runs.specs.World.{at_tick, but_next, state_of};
+ghost use Rattle.ptk_timeline_formats.specs.declared.sheet.Form.TheVariants.{Vcd};
 ghost use Rattle.ptk_timeline_formats.specs.Shown.{AreShown, kept_in, runner_shown, start_in, status_shown};
 ghost use Rattle.ptk_timeline_formats.specs.Steps.{is_step_over, step_since, step_within, tick_behind_step};
+ghost use Rattle.ptk_timeline_formats.specs.Texts.{part_text};
 
 use crate::change::{Change, ShownSince};
 use crate::sheet::Sheet;
@@ -277,6 +280,10 @@ impl PartView {
         } }
         ensures shown { OnOk result (AreShown step.now (state_of system.now p).part self.new.threads.items) }
         ensures count { vec_len self.new.threads ≡ vec_len self.old.threads }
+        ensures form { sheet.new.form ≡ sheet.old.form }
+        ensures dump { sheet.old.form ≡ Vcd → OnOk result (Appends (W.contents out.old) (W.contents out.new)
+            (part_text ⟦<PartStatus as PartialEq>⟧.eq ⟦<Option<ThreadNo> as PartialEq>⟧.eq ⟦<Shown as PartialEq>⟧.eq
+            step.now (state_of system.now p).part sheet.old.at tick p self.old)) }
     {
         let (status, runner) = (status_of(system, p, step), runner_of(system, p, step));
         let changes = [
@@ -309,6 +316,8 @@ impl PartView {
           lost = (state_of system.now p).account.lost;
           dropped = (state_of system.now p).part.console.dropped;
         } }
+        ensures form { sheet.new.form ≡ sheet.old.form }
+        ensures dump { sheet.old.form ≡ Vcd → OnOk result (Appends (W.contents out.old) (W.contents out.new) []) }
     {
         let (lost, dropped) = (system.lost(p), system.dropped(p));
         let ticks = lost.saturating_sub(self.lost);

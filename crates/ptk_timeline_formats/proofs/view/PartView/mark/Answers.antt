@@ -1,0 +1,15 @@
+use Rattle.std.proofs.Common.{[], ◌∷◌, subst}
+use Rattle.std.proofs.lemmas.Result.{IfOk-weaker}
+use Rattle.std.specs.Io.KnownBytes.{Appends}
+use Rattle.ptk_timeline_formats.specs.Signals.{changes_lines}
+use Rattle.ptk_timeline_formats.proofs.Lines.{no_lost_lines}
+use Rattle.ptk_timeline_formats.proofs.view.PartView.mark.Goals as goal
+
+pub returns-clause-dump : goal.returns-clause-dump
+returns-clause-dump g c = λ vcd.
+    IfOk-weaker c.put_each.result
+    (λ _. Appends (g.W.Write.contents c.args.out.now) (g.W.Write.contents c.put_each.new.out) (changes_lines c.args.sheet.now.at c.args.tick c.args.p (c.then_some.result ∷ c.then_some-2.result ∷ [])))
+    (λ _. Appends (g.W.Write.contents c.args.out.now) (g.W.Write.contents c.put_each.new.out) [])
+    (λ x written. subst (Appends (g.W.Write.contents c.args.out.now) (g.W.Write.contents c.put_each.new.out))
+    (no_lost_lines c.args.sheet.now.at c.args.tick c.args.p _ _ _ _ c.then_some.result c.then_some-2.result c.then_some.ensures c.then_some-2.ensures) written)
+    (c.put_each.ensures.dump vcd)

@@ -1,0 +1,39 @@
+-- What a dump has of what is shown of a partition, by tests of what is the same.
+use Rattle.std.specs.Prelude.{ℕ, ◌+◌, List, [], ◌∷◌, ◌++◌, Bool, not, if◌then◌else◌, Option, take}
+use Rattle.std.specs.Bool.{then_some}
+use Rattle.ptk_words.specs.Names.{ThreadNumber}
+use Rattle.ptk_words.specs.declared.TheConstants.{THREAD_LIMIT}
+use Rattle.ptk_words_model.specs.State.{Part}
+use Rattle.ptk_main_runs.specs.PartStatus.{PartStatus}
+use Rattle.ptk_timeline_formats.specs.declared.shown.Shown.{Shown}
+use Rattle.ptk_timeline_formats.specs.declared.step.Step.{Step}
+use Rattle.ptk_timeline_formats.specs.declared.change.ShownSince.{ShownSince}
+use Rattle.ptk_timeline_formats.specs.declared.change.Change.{Change}
+use Rattle.ptk_timeline_formats.specs.declared.change.Change.TheVariants.{Status, Runner}
+use Rattle.ptk_timeline_formats.specs.declared.view.PartView.{PartView}
+use Rattle.ptk_timeline_formats.specs.Shown.{is_step_of, runner_shown, shown_in, status_shown}
+use Rattle.ptk_timeline_formats.specs.Signals.{changes_lines, lines_at, shown_lines, tick_behind_all}
+
+-- what a dump has at a tick of a thread that was shown so, behind a line of tick `at`: nothing where it is shown as before, else its lines (own)
+abbrev pub thread_text : Bool → ℕ → ℕ → ℕ → ℕ → Shown → Shown → List ℕ
+thread_text is_same at tick p t before shown = if is_same then [] else lines_at at tick (shown_lines p t before shown)
+
+-- what a dump has at a tick of the threads from number t on that were shown so, one after another, by a test of what is the same (own)
+abbrev pub threads_text : (Shown → Shown → Bool) → (ℕ → Shown) → ℕ → ℕ → ℕ → ℕ → List ShownSince → List ℕ
+threads_text same shown at tick p t [] = []
+threads_text same shown at tick p t (kept ∷ rest) =
+    thread_text (same (shown t) kept.shown) at tick p t kept.shown (shown t)
+    ++ threads_text same shown (if same (shown t) kept.shown then at else tick) tick p (t + 1) rest
+
+-- the changes of the status and the running thread of a partition that was shown so, if they are not the same (own)
+abbrev pub part_changes : (PartStatus → PartStatus → Bool) → (Option ThreadNumber → Option ThreadNumber → Bool) → Option Step → Part → PartView → List (Option Change)
+part_changes same_status same_runner step s view =
+    then_some (not (same_status (status_shown step s) view.status)) (Status (status_shown step s))
+    ∷ then_some (not (same_runner (runner_shown step s) view.runner)) (Runner (runner_shown step s)) ∷ []
+
+-- what a dump has at a tick of a partition that was shown so and is now in this state, behind a line of tick `at`: of what is not the same, the status, the running thread and the threads (own)
+abbrev pub part_text : (PartStatus → PartStatus → Bool) → (Option ThreadNumber → Option ThreadNumber → Bool) → (Shown → Shown → Bool) → Option Step → Part → ℕ → ℕ → ℕ → PartView → List ℕ
+part_text same_status same_runner same step s at tick p view =
+    changes_lines at tick p (part_changes same_status same_runner step s view)
+    ++ threads_text same (λ (t : ℕ). shown_in (is_step_of step t) t s)
+    (tick_behind_all at tick (part_changes same_status same_runner step s view)) tick p 1 (take THREAD_LIMIT view.threads.items)
