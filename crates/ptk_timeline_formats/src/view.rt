@@ -167,6 +167,10 @@ impl PartView {
         ensures shown { MatchBool (is_step_over due end self.old.step)
             (OnOk result (AreShown None (state_of system.now p).part self.new.threads.items)) ⊤ }
         ensures count { vec_len self.new.threads ≡ vec_len self.old.threads }
+        ensures dump { sheet.old.form ≡ Vcd → MatchBool (is_step_over due end self.old.step)
+            (OnOk result (Appends (W.contents out.old) (W.contents out.new)
+            (part_text ⟦<PartStatus as PartialEq>⟧.eq ⟦<Option<ThreadNo> as PartialEq>⟧.eq ⟦<Shown as PartialEq>⟧.eq
+            None (state_of system.now p).part sheet.old.at (tick_behind_step due self.old.step) p self.old))) ⊤ }
     {
         let Some(step) = &self.step else {
             return Ok(());
@@ -200,6 +204,9 @@ impl PartView {
         ensures shown { OnOk result (AreShown
             (step_since self.old.steps tick end (state_of system.now p)) (state_of system.now p).part self.new.threads.items) }
         ensures count { vec_len self.new.threads ≡ vec_len self.old.threads }
+        ensures dump { sheet.old.form ≡ Vcd → OnOk result (Appends (W.contents out.old) (W.contents out.new)
+            (part_text ⟦<PartStatus as PartialEq>⟧.eq ⟦<Option<ThreadNo> as PartialEq>⟧.eq ⟦<Shown as PartialEq>⟧.eq
+            (step_since self.old.steps tick end (state_of system.now p)) (state_of system.now p).part sheet.old.at tick p self.old)) }
     {
         let step = Step::since(system, p, self.steps, tick, end);
         self.show(system, p, &step, tick, sheet, out)?;
@@ -244,6 +251,11 @@ impl PartView {
             IfSome (step_within self.old.steps begin end (state_of system.now p))
             (λ step. OnOk result (AreShown (Some step) (state_of system.now p).part self.new.threads.items)) }
         ensures count { vec_len self.new.threads ≡ vec_len self.old.threads }
+        ensures dump { let begin = tick_behind_step tick self.old.step in
+            sheet.old.form ≡ Vcd → IfSome (step_within self.old.steps begin end (state_of system.now p))
+            (λ step. OnOk result (Appends (W.contents out.old) (W.contents out.new)
+            (part_text ⟦<PartStatus as PartialEq>⟧.eq ⟦<Option<ThreadNo> as PartialEq>⟧.eq ⟦<Shown as PartialEq>⟧.eq
+            (Some step) (state_of system.now p).part sheet.old.at begin p self.old))) }
     {
         let begin = Step::end_of(&self.step, tick, end);
         let step = Step::within(system, p, self.steps, begin, end);

@@ -1,0 +1,23 @@
+use Rattle.std.proofs.Common.{[], ◌∙◌, subst, append-nil}
+use Rattle.std.specs.Prelude.{Option}
+use Rattle.std.specs.Option.{option_eq}
+use Rattle.std.specs.Io.KnownBytes.{Appends}
+use Rattle.std.proofs.KnownBytes.{Appends-trans}
+use Rattle.ptk_words.specs.contracts.numbers.ThreadNoPartialEq.TheImpl as number_eq
+use Rattle.ptk_main_runs.below.ptk_system.specs.contracts.status.PartStatusPartialEq.TheImpl as status_eq
+use Rattle.ptk_main_runs.specs.World.{state_of}
+use Rattle.ptk_timeline_formats.specs.declared.step.Step.{Step}
+use Rattle.ptk_timeline_formats.specs.contracts.shown.ShownPartialEq.TheImpl as shown_eq
+use Rattle.ptk_timeline_formats.specs.Texts.{part_text}
+use Rattle.ptk_timeline_formats.proofs.view.PartView.decide.Goals as goal
+
+pub returns-clause-dump : goal.returns-clause-dump
+returns-clause-dump g c = λ vcd.
+    subst (λ (step : Option Step). Appends (g.W.Write.contents c.args.out.now) (g.W.Write.contents c.mark.new.out)
+    (part_text (status_eq.ghosts).eq (option_eq (number_eq.ghosts).eq) (shown_eq.ghosts).eq step (state_of c.args.system.now c.args.p).part c.args.sheet.now.at c.args.tick c.args.p c.args.self.now))
+    c.since-step.ensures.step
+    (subst (Appends (g.W.Write.contents c.args.out.now) (g.W.Write.contents c.mark.new.out))
+    (append-nil (part_text (status_eq.ghosts).eq (option_eq (number_eq.ghosts).eq) (shown_eq.ghosts).eq c.since-step.result (state_of c.args.system.now c.args.p).part c.args.sheet.now.at c.args.tick c.args.p c.args.self.now))
+    (Appends-trans (g.W.Write.contents c.args.out.now) (g.W.Write.contents c.show.new.out) (g.W.Write.contents c.mark.new.out)
+    (part_text (status_eq.ghosts).eq (option_eq (number_eq.ghosts).eq) (shown_eq.ghosts).eq c.since-step.result (state_of c.args.system.now c.args.p).part c.args.sheet.now.at c.args.tick c.args.p c.args.self.now)
+    [] (c.in_ok-show.ensures.dump vcd) (c.in_ok-mark.ensures.dump (c.show.ensures.form ∙ vcd))))
