@@ -5,7 +5,9 @@ ghost use Rattle.ptk_words.specs.declared.TheConstants.{LAST_TICK};
 ghost use Rattle.ptk_main_runs.specs.declared.runs.RunFault.TheVariants.{NoPartition};
 ghost use Rattle.ptk_main_runs.specs.Missing.{first_missing};
 ghost use Rattle.ptk_main_runs.specs.RunFaults.{missing_in_run};
-ghost use Rattle.ptk_statistics.specs.Asked.{IsAsked};
+ghost use Rattle.ptk_main_runs.specs.World.{section_at, state_of};
+ghost use Rattle.ptk_main_runs.specs.Told.{status_in};
+ghost use Rattle.ptk_statistics.specs.Asked.{IsAsked, is_asked};
 
 use crate::blocks::put_block;
 use crate::document::{Figures, json_of};
@@ -171,7 +173,9 @@ fn put_beginning<W: Write>(ticks: Tick, out: &mut W) -> io::Result<()> {
 }
 
 /// Whether the partition at a place is asked for.
-fn is_asked(config: &Config, place: usize, partition: Option<&str>) -> bool {
+fn is_asked(config: &Config, place: usize, partition: Option<&str>) -> bool
+    ensures { place < length config.now.sections → result ≡ is_asked partition.entry (section_at config.now place).name }
+{
     match (partition, config.sections().get(place)) {
         (Some(name), Some(section)) => section.has_name(name),
         _ => true,
@@ -181,6 +185,9 @@ fn is_asked(config: &Config, place: usize, partition: Option<&str>) -> bool {
 /// The partition at a place with its figures.
 fn figures_of<'a>(system: &'a System<'_>, place: usize, part: &'a PartStatistics) -> Figures<'a>
     requires { place < length system.now.config.sections }
+    ensures name { result.name.now ≡ (section_at system.now.config place).name }
+    ensures status { result.status ≡ status_in (state_of system.now place).part }
+    ensures part { result.part.now ≡ part.now }
 {
     system.states_are_alone();
     let sections = system.config().sections();
