@@ -1,3 +1,4 @@
 pub mod Growing
 pub mod Sums
 pub mod Parts
+pub mod Sent

@@ -1,3 +1,5 @@
 pub mod Sums
 pub mod Parts
 pub mod Asked
+pub mod Words
+pub mod Document

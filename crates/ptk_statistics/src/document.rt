@@ -1,8 +1,10 @@
 //! The JSON object of a partition, written member by member.
 
-ghost use Rattle.std.specs.Prelude.{◌≡◌, IfOk, string_bytes};
+ghost use Rattle.std.specs.Prelude.{◌≡◌, IfOk, OnOk, length, string_bytes};
 ghost use Rattle.json.specs.Lex.{tokens};
 ghost use Rattle.json.specs.Print.{print};
+ghost use Rattle.ptk_main_runs.specs.Members.{SendsAll};
+ghost use Rattle.ptk_statistics.specs.Document.{IsObject, MaySend, SendsActivations, SendsCalls, SendsCounted, SendsFigures, SendsMutex, SendsMutexes, SendsThread, SendsThreads, SendsTicks, call_items, longest_member, pair_member};
 
 use crate::part::PartStatistics;
 use crate::words::{KINDS, doing_word, outcome_word};
@@ -29,12 +31,15 @@ pub(crate) struct Figures<'a> {
 /// The JSON text of a partition: an object in the compact form of its tokens, with no newline. An error where memory
 /// ran out.
 pub(crate) fn json_of(alloc: Global, figures: &Figures<'_>) -> Result<String, Error>
-    ensures { IfOk result (λ text. string_bytes text ≡ print (tokens (string_bytes text))) }
+    ensures sent { IfOk result (λ text. IsObject figures.now.name.now figures.now.status figures.now.part.now (string_bytes text)) }
+    ensures compact { IfOk result (λ text. string_bytes text ≡ print (tokens (string_bytes text))) }
 {
     serde_json::to_string(alloc, figures)
 }
 
-impl Described for Figures<'_> {}
+impl Described for Figures<'_> {
+    ghost writes = { λ figures. SendsFigures figures.name.now figures.status figures.part.now };
+}
 
 impl Serialize for Figures<'_> {
     fn serialize<S: Serializer>(&self, out: &mut S) -> Result<(), S::Error> {
@@ -52,7 +57,9 @@ impl Serialize for Figures<'_> {
 }
 
 /// Puts the ticks and the steps of a partition.
-fn put_counted<S: Serializer>(counted: &Counted, out: &mut S) -> Result<(), S::Error> {
+fn put_counted<S: Serializer>(counted: &Counted, out: &mut S) -> Result<(), S::Error>
+    ensures { OnOk result (SendsCounted counted.now (S.written out.old) (S.written out.new)) }
+{
     let members = [
         ("own", Value::Number(counted.own())),
         ("used", Value::Number(counted.used())),
@@ -66,26 +73,32 @@ fn put_counted<S: Serializer>(counted: &Counted, out: &mut S) -> Result<(), S::E
 }
 
 /// Puts the threads that there were.
-fn put_threads<S: Serializer>(part: &PartStatistics, out: &mut S) -> Result<(), S::Error> {
+fn put_threads<S: Serializer>(part: &PartStatistics, out: &mut S) -> Result<(), S::Error>
+    ensures { OnOk result (SendsThreads part.now (S.written out.old) (S.written out.new)) }
+{
     out.key("threads")?;
     out.begin_seq(None)?;
     let threads = part.threads();
-    for i in 0..threads.len().min(THREAD_LIMIT as usize) {
-        if threads[i].is_used() {
-            let t = ThreadNo::new(i as u8 + 1);
-            put_thread(t, part.counted().steps_of(t), &threads[i], out)?;
-        }
+    let count = threads.len().min(THREAD_LIMIT as usize);
+    for i in 0..count {
+        let t = ThreadNo::new(i as u8 + 1);
+        put_thread(t, part.counted().steps_of(t), &threads[i], out)?;
     }
     out.end_seq()
 }
 
-/// Puts a thread.
+/// Puts a thread, if there was one of this number.
 fn put_thread<S: Serializer>(
     t: ThreadNo,
     steps: u64,
     thread: &ThreadStatistics,
     out: &mut S,
-) -> Result<(), S::Error> {
+) -> Result<(), S::Error>
+    ensures { OnOk result (MaySend (SendsThread t steps) (S.written out.old) (S.written out.new)) }
+{
+    if !thread.is_used() {
+        return Ok(());
+    }
     let members = [
         ("thread", Value::Number(u64::from(t.number()))),
         ("does", Value::Word(doing_word(thread.doing()))),
@@ -107,7 +120,9 @@ fn put_thread<S: Serializer>(
 }
 
 /// Puts a number of own ticks and of all ticks under a key.
-fn put_span<S: Serializer>(key: &str, span: Span, out: &mut S) -> Result<(), S::Error> {
+fn put_span<S: Serializer>(key: &str, span: Span, out: &mut S) -> Result<(), S::Error>
+    ensures { OnOk result (SendsAll (pair_member key.now span) (S.written out.old) (S.written out.new)) }
+{
     let members = [
         ("own", Value::Number(span.own)),
         ("all", Value::Number(span.wall)),
@@ -116,7 +131,9 @@ fn put_span<S: Serializer>(key: &str, span: Span, out: &mut S) -> Result<(), S::
 }
 
 /// Puts for how long a thread did what, each by its word.
-fn put_spans<S: Serializer>(thread: &ThreadStatistics, out: &mut S) -> Result<(), S::Error> {
+fn put_spans<S: Serializer>(thread: &ThreadStatistics, out: &mut S) -> Result<(), S::Error>
+    ensures { OnOk result (SendsTicks (S.written out.old) (S.written out.new)) }
+{
     out.key("ticks")?;
     out.begin_map(None)?;
     for kind in KINDS.iter() {
@@ -126,7 +143,9 @@ fn put_spans<S: Serializer>(thread: &ThreadStatistics, out: &mut S) -> Result<()
 }
 
 /// Puts a thread's activations.
-fn put_activations<S: Serializer>(spread: &Spread, out: &mut S) -> Result<(), S::Error> {
+fn put_activations<S: Serializer>(spread: &Spread, out: &mut S) -> Result<(), S::Error>
+    ensures { OnOk result (SendsActivations (S.written out.old) (S.written out.new)) }
+{
     out.key("activations")?;
     out.begin_map(None)?;
     put_members(&[("count", Value::Number(spread.count()))], out)?;
@@ -139,7 +158,9 @@ fn put_activations<S: Serializer>(spread: &Spread, out: &mut S) -> Result<(), S:
 }
 
 /// Puts the calls that a thread made.
-fn put_calls<S: Serializer>(thread: &ThreadStatistics, out: &mut S) -> Result<(), S::Error> {
+fn put_calls<S: Serializer>(thread: &ThreadStatistics, out: &mut S) -> Result<(), S::Error>
+    ensures { OnOk result (SendsCalls (S.written out.old) (S.written out.new)) }
+{
     out.key("calls")?;
     out.begin_seq(None)?;
     for call in CALLS.iter() {
@@ -150,7 +171,9 @@ fn put_calls<S: Serializer>(thread: &ThreadStatistics, out: &mut S) -> Result<()
 }
 
 /// Puts how often a call was made, if it was.
-fn put_call<S: Serializer>(word: &str, count: CallCount, out: &mut S) -> Result<(), S::Error> {
+fn put_call<S: Serializer>(word: &str, count: CallCount, out: &mut S) -> Result<(), S::Error>
+    ensures { OnOk result (SendsAll (call_items word.now count) (S.written out.old) (S.written out.new)) }
+{
     if count.made == 0 {
         return Ok(());
     }
@@ -165,26 +188,30 @@ fn put_call<S: Serializer>(word: &str, count: CallCount, out: &mut S) -> Result<
 }
 
 /// Puts the mutexes that somebody had.
-fn put_mutexes<S: Serializer>(mutexes: &[MutexStatistics], out: &mut S) -> Result<(), S::Error> {
+fn put_mutexes<S: Serializer>(mutexes: &[MutexStatistics], out: &mut S) -> Result<(), S::Error>
+    ensures { OnOk result (SendsMutexes (length mutexes.now) (S.written out.old) (S.written out.new)) }
+{
     out.key("mutexes")?;
     out.begin_seq(None)?;
     for (i, mutex) in mutexes.iter().enumerate() {
-        if mutex.held().is_some() || mutex.waited().is_some() {
-            put_mutex(i, mutex, out)?;
-        }
+        put_mutex(i as u64 + 1, mutex, out)?;
     }
     out.end_seq()
 }
 
-/// Puts the mutex at a place.
+/// Puts the mutex of this number, if somebody had it or waited for it.
 fn put_mutex<S: Serializer>(
-    place: usize,
+    number: u64,
     mutex: &MutexStatistics,
     out: &mut S,
-) -> Result<(), S::Error> {
+) -> Result<(), S::Error>
+    ensures { OnOk result (MaySend (SendsMutex number) (S.written out.old) (S.written out.new)) }
+{
+    if mutex.held().is_none() && mutex.waited().is_none() {
+        return Ok(());
+    }
     out.begin_map(None)?;
-    let number = Value::Number((place as u64).saturating_add(1));
-    put_members(&[("mutex", number)], out)?;
+    put_members(&[("mutex", Value::Number(number))], out)?;
     put_longest("held", mutex.held(), out)?;
     put_longest("waited", mutex.waited(), out)?;
     out.end_map()
@@ -195,15 +222,17 @@ fn put_longest<S: Serializer>(
     key: &str,
     longest: Option<Longest>,
     out: &mut S,
-) -> Result<(), S::Error> {
-    let Some(Longest { span, thread, from }) = longest else {
+) -> Result<(), S::Error>
+    ensures { OnOk result (SendsAll (longest_member key.now longest) (S.written out.old) (S.written out.new)) }
+{
+    let Some(longest) = longest else {
         return Ok(());
     };
     let members = [
-        ("own", Value::Number(span.own)),
-        ("all", Value::Number(span.wall)),
-        ("thread", Value::Number(u64::from(thread.number()))),
-        ("from", Value::Number(from.ticks())),
+        ("own", Value::Number(longest.span.own)),
+        ("all", Value::Number(longest.span.wall)),
+        ("thread", Value::Number(u64::from(longest.thread.number()))),
+        ("from", Value::Number(longest.from.ticks())),
     ];
     put_object(key, &members, out)
 }

@@ -1,6 +1,6 @@
 //! What is seen of a partition's threads and mutexes at its decisions.
 
-ghost use Rattle.std.specs.Prelude.{◌<◌, ◌≤◌, length};
+ghost use Rattle.std.specs.Prelude.{◌≡◌, ◌<◌, ◌≤◌, length};
 ghost use Rattle.ptk_words.specs.declared.TheConstants.{LAST_TICK};
 
 use crate::doing::doing_of;
@@ -65,12 +65,16 @@ impl Observed {
     }
 
     /// The threads, by number from 1.
-    pub fn threads(&self) -> &[ThreadStatistics] {
+    pub fn threads(&self) -> &[ThreadStatistics]
+        ensures { result.now ≡ self.now.threads.items }
+    {
         self.threads.as_slice()
     }
 
     /// The mutexes, by number from 1.
-    pub fn mutexes(&self) -> &[MutexStatistics] {
+    pub fn mutexes(&self) -> &[MutexStatistics]
+        ensures { result.now ≡ self.now.mutexes.items }
+    {
         self.mutexes.as_slice()
     }
 

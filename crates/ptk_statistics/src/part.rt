@@ -168,12 +168,16 @@ impl PartStatistics {
     }
 
     /// What its threads did, by number from 1.
-    pub fn threads(&self) -> &[ThreadStatistics] {
+    pub fn threads(&self) -> &[ThreadStatistics]
+        ensures { result.now ≡ self.now.observed.threads.items }
+    {
         self.observed.threads()
     }
 
     /// How long its mutexes were held and waited for, by number from 1.
-    pub fn mutexes(&self) -> &[MutexStatistics] {
+    pub fn mutexes(&self) -> &[MutexStatistics]
+        ensures { result.now ≡ self.now.observed.mutexes.items }
+    {
         self.observed.mutexes()
     }
 }

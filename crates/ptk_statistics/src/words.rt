@@ -1,5 +1,8 @@
 //! The words for kinds of what a thread does, and for how a partition stands.
 
+ghost use Rattle.std.specs.Prelude.{◌≡◌};
+ghost use Rattle.ptk_statistics.specs.Words.{word_of_doing, word_of_outcome};
+
 use ptk_main_runs::PartStatus;
 use ptk_statistics_figures::Doing;
 
@@ -16,7 +19,9 @@ pub(crate) const KINDS: [Doing; 8] = [
 ];
 
 /// The word for a kind.
-pub(crate) fn doing_word(doing: Doing) -> &'static str {
+pub(crate) fn doing_word(doing: Doing) -> &'static str
+    ensures { result.now ≡ word_of_doing doing }
+{
     match doing {
         Doing::Free => "free",
         Doing::Running => "running",
@@ -33,7 +38,9 @@ pub(crate) fn doing_word(doing: Doing) -> &'static str {
 }
 
 /// The word for how a partition ended its run, as a participle where the report has a noun (`exited`, `stopped`).
-pub(crate) fn outcome_word(status: PartStatus) -> &'static str {
+pub(crate) fn outcome_word(status: PartStatus) -> &'static str
+    ensures { result.now ≡ word_of_outcome status }
+{
     match status {
         PartStatus::Idle => "idle",
         PartStatus::Running => "running",

@@ -1,0 +1,156 @@
+-- Lemmas on what is sent of a partition's figures.
+use Rattle.std.proofs.Common.{◌≡◌, ℕ, ◌+◌, ◌-◌, ◌<◌, ◌≤◌, List, [], ◌∷◌, ◌++◌, Option, Some, None, codes, get_or, length, min, slice_index, take, ◌∙◌, ap, arith, append_assoc, inr, subst, sym, zero-add}
+use Rattle.std.specs.List.{range_with_len}
+use Rattle.std.proofs.lemmas.Bool.{ne_eqb}
+use Rattle.std.proofs.lemmas.List.{take_more, take_all}
+use Rattle.std.proofs.lemmas.List.FromFn.{get_or-range_with_len, length-range_with_len}
+use Rattle.serde.specs.Event.{Event, Log, Logs, WritesEach, field_key, map_begins, map_ends, seq_begins, seq_ends}
+use Rattle.serde.specs.declared.name.Case.TheVariants.{AsIs}
+use Rattle.serde.proofs.Events.{WritesEach-snoc}
+use Rattle.ptk_words.specs.declared.TheConstants.{LAST_TICK, THREAD_LIMIT}
+use Rattle.ptk_statistics_figures.specs.declared.counted.Counted.{Counted}
+use Rattle.ptk_statistics_figures.specs.declared.thread.CallCount.{CallCount}
+use Rattle.ptk_statistics_figures.specs.declared.doing.Doing.{Doing}
+use Rattle.ptk_statistics_figures.specs.declared.moment.Longest.{Longest}
+use Rattle.ptk_statistics.specs.declared.part.PartStatistics.{PartStatistics}
+use Rattle.ptk_statistics_figures.specs.declared.moment.Span.{Span}
+use Rattle.ptk_main_runs.specs.declared.members.Value.{Value}
+use Rattle.ptk_main_runs.specs.PartStatus.{PartStatus}
+use Rattle.ptk_statistics_figures.specs.Counts.{counted_ticks, steps_by_thread, steps_in}
+use Rattle.ptk_main_runs.specs.Members.{SendsAll, optional_value, value_event}
+use Rattle.ptk_statistics.specs.Words.{word_of_doing, word_of_outcome}
+use Rattle.ptk_statistics.specs.Document.{InArray, InObject, MaySend, SendsActivations, SendsCall, SendsCalls, SendsCounted, SendsFigures, SendsMutex, SendsMutexes, SendsPair, SendsStanding, SendsThread, SendsThreadAt, SendsThreads, SendsTicks, all_members, call_items, longest_member, number_member, object_member, pair_member, word_member}
+
+-- ---- one behind the other
+
+sends_then : (first rest : List Event) (old mid new : Log) → SendsAll first old mid → SendsAll rest mid new → SendsAll (first ++ rest) old new
+sends_then first rest None mid new a b = tt
+sends_then first rest (Some before) mid new a b =
+    let all = subst (λ (m : Log). SendsAll rest m new) a b in
+    all ∙ ap (λ (events : List Event). Some events) (append_assoc before first rest)
+
+-- one event
+logged : (event : Event) (old new : Log) → Logs old new event → SendsAll (event ∷ []) old new
+logged event None new sent = tt
+logged event (Some before) new sent = sent
+
+pub in_object : (key : List ℕ) (inside : Log → Log → Type 0) (old named begun last new : Log) → Logs old named (field_key key AsIs) → Logs named begun (map_begins None)
+    → inside begun last → Logs last new map_ends → InObject key inside old new
+in_object key inside old named begun last new a b c d = (named, a, (begun, b, (last, c, d)))
+
+pub in_array : (key : List ℕ) (inside : Log → Log → Type 0) (old named begun last new : Log) → Logs old named (field_key key AsIs) → Logs named begun (seq_begins None)
+    → inside begun last → Logs last new seq_ends → InArray key inside old new
+in_array key inside old named begun last new a b c d = (named, a, (begun, b, (last, c, d)))
+
+-- the item at the next place
+pub each_next : {A : Type 0} (w : A → Log → Log → Type 0) (xs : List A) (i : ℕ) (d : A) (old mid new : Log) → i < length xs → WritesEach w (take i xs) old mid
+    → w (get_or xs i d) mid new → WritesEach w (take (i + 1) xs) old new
+each_next w xs i d old mid new lt each next =
+    subst (λ ys. WritesEach w ys old new) (sym (take_more xs i d lt)) (WritesEach-snoc w (take i xs) (get_or xs i d) old mid new each next)
+
+pub each_all : {A : Type 0} (w : A → Log → Log → Type 0) (xs : List A) (i : ℕ) (old new : Log) → length xs ≤ i → WritesEach w (take i xs) old new → WritesEach w xs old new
+each_all w xs i old new all each = subst (λ ys. WritesEach w ys old new) (take_all i xs all) each
+
+-- the next place
+pub place_next : (w : ℕ → Log → Log → Type 0) (n i : ℕ) (old mid new : Log) → i < n → WritesEach w (take i (range_with_len 0 n)) old mid
+    → w i mid new → WritesEach w (take (i + 1) (range_with_len 0 n)) old new
+place_next w n i old mid new lt each next =
+    let within : i < length (range_with_len 0 n) = subst (λ (k : ℕ). i < k) (sym (length-range_with_len 0 n)) lt in
+    let at : get_or (range_with_len 0 n) i 0 ≡ i = get_or-range_with_len 0 n i 0 lt ∙ zero-add i in
+    each_next w (range_with_len 0 n) i 0 old mid new within each (subst (λ (p : ℕ). w p mid new) (sym at) next)
+
+pub place_all : (w : ℕ → Log → Log → Type 0) (n i : ℕ) (old new : Log) → n ≤ i → WritesEach w (take i (range_with_len 0 n)) old new → WritesEach w (range_with_len 0 n) old new
+place_all w n i old new all each = each_all w (range_with_len 0 n) i old new (subst (λ (k : ℕ). k ≤ i) (sym (length-range_with_len 0 n)) all) each
+
+-- ---- ticks, calls and times
+
+pub counted_sent : (counted : Counted) (own used idle lost halted ahead steps : ℕ) (old new : Log)
+    → (counted_ticks counted ≤ LAST_TICK → own ≡ counted_ticks counted) → used ≡ counted.used → idle ≡ counted.idle → lost ≡ counted.lost
+    → halted ≡ counted.halted → ahead ≡ counted.ahead → steps ≡ steps_in counted
+    → SendsAll (all_members (number_member (codes "own") own ∷ number_member (codes "used") used ∷ number_member (codes "idle") idle ∷ number_member (codes "lost") lost
+    ∷ number_member (codes "after_halt") halted ∷ number_member (codes "lost_ahead") ahead ∷ number_member (codes "steps") steps ∷ [])) old new
+    → SendsCounted counted old new
+counted_sent counted own used idle lost halted ahead steps old new e1 e2 e3 e4 e5 e6 e7 sent early =
+    let e : own ≡ counted_ticks counted = e1 early in
+    rw (e, e2, e3, e4, e5, e6, e7) at sent
+
+pub call_sent : (name : List ℕ) (count : CallCount) (old begun listed new : Log) → (count.made ≡ 0 → ⊥) → Logs old begun (map_begins None)
+    → SendsAll (all_members (word_member (codes "call") name ∷ number_member (codes "made") count.made ∷ number_member (codes "refused") count.refused ∷ [])) begun listed
+    → Logs listed new map_ends → SendsAll (call_items name count) old new
+call_sent name count old begun listed new made a b c =
+    rw (ne_eqb count.made 0 made)
+    (sends_then (map_begins None ∷ []) _ old begun new (logged (map_begins None) old begun a)
+    (sends_then _ (map_ends ∷ []) begun listed new b (logged map_ends listed new c)))
+
+pub longest_sent : (key : List ℕ) (longest : Option Longest) (there : Longest) (number from : ℕ) (old new : Log) → longest ≡ Some there
+    → number ≡ there.thread → from ≡ there.from
+    → SendsAll (object_member key (number_member (codes "own") there.span.own ∷ number_member (codes "all") there.span.wall
+    ∷ number_member (codes "thread") number ∷ number_member (codes "from") from ∷ [])) old new
+    → SendsAll (longest_member key longest) old new
+longest_sent key longest there number from old new is e1 e2 sent =
+    subst (λ (o : Option Longest). SendsAll (longest_member key o) old new) (sym is) (rw (e1, e2) at sent)
+
+pub pair_sent : (key word : List ℕ) (span : Span) (old new : Log) → word ≡ key → SendsAll (pair_member word span) old new → SendsPair key old new
+pair_sent key word span old new same sent = (span, subst (λ (k : List ℕ). SendsAll (pair_member k span) old new) same sent)
+
+pub named_call_sent : (name word : List ℕ) (count : CallCount) (old new : Log) → word ≡ name → SendsAll (call_items word count) old new → SendsCall name old new
+named_call_sent name word count old new same sent = (count, subst (λ (n : List ℕ). SendsAll (call_items n count) old new) same sent)
+
+-- ---- a thread
+
+pub standing_sent : (t steps number : ℕ) (word : List ℕ) (does : Doing) (since preemptions : ℕ) (least : Option ℕ) (value : Value) (old new : Log)
+    → number ≡ t → word ≡ word_of_doing does → value ≡ optional_value least
+    → SendsAll (all_members (number_member (codes "thread") number ∷ word_member (codes "does") word ∷ number_member (codes "since") since ∷ number_member (codes "steps") steps
+    ∷ number_member (codes "preemptions") preemptions ∷ (field_key (codes "least_stack") AsIs ∷ value_event value ∷ []) ∷ [])) old new
+    → SendsStanding t steps old new
+standing_sent t steps number word does since preemptions least value old new e1 e2 e3 sent =
+    (does, since, preemptions, least, rw (e1, e2, e3) at sent)
+
+pub activations_sent : (count from : ℕ) (least mean greatest : Span) (old named begun a b c d last new : Log) → Logs old named (field_key (codes "activations") AsIs)
+    → Logs named begun (map_begins None) → SendsAll (number_member (codes "count") count) begun a → SendsAll (pair_member (codes "least") least) a b
+    → SendsAll (pair_member (codes "mean") mean) b c → SendsAll (pair_member (codes "greatest") greatest) c d
+    → SendsAll (number_member (codes "greatest_from") from) d last → Logs last new map_ends → SendsActivations old new
+activations_sent count from least mean greatest old named begun a b c d last new h1 h2 h3 h4 h5 h6 h7 h8 =
+    (named, h1, (begun, h2, (last, (a, (count, h3), (b, (least, h4), (c, (mean, h5), (d, (greatest, h6), (from, h7))))), h8)))
+
+pub thread_sent : (t steps : ℕ) (span : Span) (old begun a b c d last new : Log) → Logs old begun (map_begins None) → SendsStanding t steps begun a
+    → SendsAll (pair_member (codes "to_run") span) a b → SendsTicks b c → SendsActivations c d → SendsCalls d last → Logs last new map_ends
+    → MaySend (SendsThread t steps) old new
+thread_sent t steps span old begun a b c d last new h1 h2 h3 h4 h5 h6 h7 = inr (begun, h1, (a, h2, (b, (span, h3), (c, h4, (d, h5, (last, h6, h7))))))
+
+pub thread_at : (counted found : Counted) (place t steps : ℕ) (old new : Log) → found ≡ counted → t ≡ place + 1 → steps ≡ slice_index (steps_by_thread found) (t - 1)
+    → MaySend (SendsThread t steps) old new → SendsThreadAt counted place old new
+thread_at counted found place t steps old new e1 e2 e3 sent =
+    let before : t - 1 ≡ place = omega (arith, e2) in
+    let made : steps ≡ slice_index (steps_by_thread counted) place =
+    e3 ∙ (ap (λ (n : ℕ). slice_index (steps_by_thread found) n) before ∙ ap (λ (c : Counted). slice_index (steps_by_thread c) place) e1) in
+    subst (λ (n : ℕ). MaySend (SendsThread (place + 1) n) old new) made (subst (λ (n : ℕ). MaySend (SendsThread n steps) old new) e2 sent)
+
+pub threads_sent : (part : PartStatistics) (count i : ℕ) (old named begun last new : Log) → count ≡ min (length part.observed.threads.items) THREAD_LIMIT → count ≤ i
+    → Logs old named (field_key (codes "threads") AsIs) → Logs named begun (seq_begins None)
+    → WritesEach (SendsThreadAt part.counted) (take i (range_with_len 0 count)) begun last → Logs last new seq_ends → SendsThreads part old new
+threads_sent part count i old named begun last new is all a b each d =
+    let whole = place_all (SendsThreadAt part.counted) count i begun last all each in
+    in_array (codes "threads") (WritesEach (SendsThreadAt part.counted) (range_with_len 0 (min (length part.observed.threads.items) THREAD_LIMIT))) old named begun last new a b
+    (subst (λ (n : ℕ). WritesEach (SendsThreadAt part.counted) (range_with_len 0 n) begun last) is whole) d
+
+-- ---- a mutex, and a partition
+
+pub mutex_sent : (number : ℕ) (held waited : Option Longest) (old begun a b last new : Log) → Logs old begun (map_begins None) → SendsAll (number_member (codes "mutex") number) begun a
+    → SendsAll (longest_member (codes "held") held) a b → SendsAll (longest_member (codes "waited") waited) b last → Logs last new map_ends
+    → MaySend (SendsMutex number) old new
+mutex_sent number held waited old begun a b last new h1 h2 h3 h4 h5 = inr (begun, h1, (a, h2, (b, (held, h3), (last, (waited, h4), h5))))
+
+pub figures_sent : (name word : List ℕ) (status : PartStatus) (part : PartStatistics) (counted : Counted) (count : ℕ) (old begun a b c last new : Log)
+    → word ≡ word_of_outcome status → counted ≡ part.counted → count ≡ length part.observed.mutexes.items → Logs old begun (map_begins None)
+    → SendsAll (all_members (word_member (codes "name") name ∷ word_member (codes "status") word ∷ [])) begun a → SendsCounted counted a b
+    → SendsThreads part b c → SendsMutexes count c last → Logs last new map_ends → SendsFigures name status part old new
+figures_sent name word status part counted count old begun a b c last new e1 e2 e3 h1 h2 h3 h4 h5 h6 = (
+  begun,
+  h1,
+  (
+    a,
+    subst (λ (w : List ℕ). SendsAll (all_members (word_member (codes "name") name ∷ word_member (codes "status") w ∷ [])) begun a) e1 h2,
+    (b, subst (λ (x : Counted). SendsCounted x a b) e2 h3, (c, h4, (last, subst (λ (n : ℕ). SendsMutexes n c last) e3 h5, h6))),
+  ),
+)

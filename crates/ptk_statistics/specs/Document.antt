@@ -1,0 +1,203 @@
+-- What the JSON object of a partition holds, as what is sent of it to a writer of JSON (docs/FORMATS.md, "Figures of a run").
+use Rattle.std.specs.Prelude.{◌≡◌, ◌⊎◌, ℕ, ◌+◌, ◌≤◌, List, [], ◌∷◌, ◌++◌, Option, Some, None, codes, flat_map, if◌then◌else◌, ◌==◌, length, min, slice_index}
+use Rattle.std.specs.List.{range_with_len}
+use Rattle.serde.specs.Event.{Event, Log, Sends, Then, WritesEach, unsigned, text, seq_begins, seq_ends, map_begins, map_ends, field_key}
+use Rattle.serde_json.specs.Sent.{IsTextOf}
+use Rattle.serde.specs.declared.name.Case.TheVariants.{AsIs}
+use Rattle.ptk_words.specs.declared.TheConstants.{LAST_TICK, THREAD_LIMIT}
+use Rattle.ptk_statistics_figures.specs.declared.counted.Counted.{Counted}
+use Rattle.ptk_statistics_figures.specs.declared.moment.Span.{Span}
+use Rattle.ptk_statistics_figures.specs.declared.thread.CallCount.{CallCount}
+use Rattle.ptk_statistics_figures.specs.declared.moment.Longest.{Longest}
+use Rattle.ptk_statistics_figures.specs.declared.doing.Doing.{Doing}
+use Rattle.ptk_statistics_figures.specs.declared.calls.TheConstants.{CALLS}
+use Rattle.ptk_statistics_figures.specs.CallNames.{name_of}
+use Rattle.ptk_statistics_figures.specs.Counts.{counted_ticks, steps_by_thread, steps_in}
+use Rattle.ptk_main_runs.specs.Members.{SendsAll, optional_value, value_event}
+use Rattle.ptk_main_runs.specs.PartStatus.{PartStatus}
+use Rattle.ptk_statistics.specs.declared.words.TheConstants.{KINDS}
+use Rattle.ptk_statistics.specs.Words.{word_of_doing, word_of_outcome}
+use Rattle.ptk_statistics.specs.declared.part.PartStatistics.{PartStatistics}
+
+-- ---- members and objects
+
+-- a member that is a number (RFC 8259 section 6)
+abbrev pub number_member : List ℕ → ℕ → List Event
+number_member key number = field_key key AsIs ∷ unsigned number ∷ []
+
+-- a member that is a number, null where there is none (RFC 8259 section 3)
+abbrev pub optional_member : List ℕ → Option ℕ → List Event
+optional_member key number = field_key key AsIs ∷ value_event (optional_value number) ∷ []
+
+-- a member that is a word (RFC 8259 section 7)
+abbrev pub word_member : List ℕ → List ℕ → List Event
+word_member key word = field_key key AsIs ∷ text word ∷ []
+
+-- members one behind the other (RFC 8259 section 4)
+abbrev pub all_members : List (List Event) → List Event
+all_members members = flat_map (λ member. member) members
+
+-- an object of these members (RFC 8259 section 4)
+abbrev pub object : List (List Event) → List Event
+object members = map_begins None ∷ all_members members ++ (map_ends ∷ [])
+
+-- a member that is an object of these members (RFC 8259 section 4)
+abbrev pub object_member : List ℕ → List (List Event) → List Event
+object_member key members = field_key key AsIs ∷ object members
+
+-- a member that is an object with this inside (RFC 8259 section 4)
+abbrev pub InObject : List ℕ → (Log → Log → Type 0) → Log → Log → Type 0
+InObject key inside = Then (Sends (field_key key AsIs)) (Then (Sends (map_begins None)) (Then inside (Sends map_ends)))
+
+-- a member that is an array with this inside (RFC 8259 section 5)
+abbrev pub InArray : List ℕ → (Log → Log → Type 0) → Log → Log → Type 0
+InArray key inside = Then (Sends (field_key key AsIs)) (Then (Sends (seq_begins None)) (Then inside (Sends seq_ends)))
+
+-- this, or nothing (own)
+abbrev pub MaySend : (Log → Log → Type 0) → Log → Log → Type 0
+MaySend part old new = (new ≡ old) ⊎ part old new
+
+-- ---- a partition's ticks and steps
+
+-- what became of a partition's own ticks, and its steps (own)
+abbrev pub counted_members : Counted → List Event
+counted_members counted = all_members (
+    number_member (codes "own") (counted_ticks counted)
+    ∷ number_member (codes "used") counted.used
+    ∷ number_member (codes "idle") counted.idle
+    ∷ number_member (codes "lost") counted.lost
+    ∷ number_member (codes "after_halt") counted.halted
+    ∷ number_member (codes "lost_ahead") counted.ahead
+    ∷ number_member (codes "steps") (steps_in counted)
+    ∷ [])
+
+-- these members, where the own ticks are those of a run (own)
+abbrev pub SendsCounted : Counted → Log → Log → Type 0
+SendsCounted counted old new = counted_ticks counted ≤ LAST_TICK → SendsAll (counted_members counted) old new
+
+-- ---- a thread
+
+-- a pair of own ticks and all ticks (own)
+abbrev pub pair_member : List ℕ → Span → List Event
+pair_member key span = object_member key (number_member (codes "own") span.own ∷ number_member (codes "all") span.wall ∷ [])
+
+-- a call, how often it was made and how often refused (own)
+abbrev pub call_item : List ℕ → CallCount → List Event
+call_item name count = object (word_member (codes "call") name ∷ number_member (codes "made") count.made ∷ number_member (codes "refused") count.refused ∷ [])
+
+-- a call that was made, and nothing of one that was not (own)
+abbrev pub call_items : List ℕ → CallCount → List Event
+call_items name count = if count.made == 0 then [] else call_item name count
+
+-- how a thread stands: its number, what it does, and since when; its steps and preemptions; its least stack pointer (own)
+abbrev pub standing_members : ℕ → ℕ → Doing → ℕ → ℕ → Option ℕ → List Event
+standing_members thread steps does since preemptions least = all_members (
+    number_member (codes "thread") thread
+    ∷ word_member (codes "does") (word_of_doing does)
+    ∷ number_member (codes "since") since
+    ∷ number_member (codes "steps") steps
+    ∷ number_member (codes "preemptions") preemptions
+    ∷ optional_member (codes "least_stack") least
+    ∷ [])
+
+-- some number under the key (own)
+abbrev pub SendsNumber : List ℕ → Log → Log → Type 0
+SendsNumber key old new = (number : ℕ) × SendsAll (number_member key number) old new
+
+-- some pair under the key (own)
+abbrev pub SendsPair : List ℕ → Log → Log → Type 0
+SendsPair key old new = (span : Span) × SendsAll (pair_member key span) old new
+
+-- the call of this name, if it was made (own)
+abbrev pub SendsCall : List ℕ → Log → Log → Type 0
+SendsCall name old new = (count : CallCount) × SendsAll (call_items name count) old new
+
+-- how a thread of this number and these steps stands (own)
+abbrev pub SendsStanding : ℕ → ℕ → Log → Log → Type 0
+SendsStanding thread steps old new =
+    (does : Doing) × (since : ℕ) × (preemptions : ℕ) × (least : Option ℕ) × SendsAll (standing_members thread steps does since preemptions least) old new
+
+-- for how long a thread did what: a pair for each kind, by its word (own)
+abbrev pub SendsTicks : Log → Log → Type 0
+SendsTicks = InObject (codes "ticks") (WritesEach (λ kind. SendsPair (word_of_doing kind)) KINDS)
+
+-- a thread's activations: their number, the least, the mean and the greatest, and from when on that was (own)
+abbrev pub SendsActivations : Log → Log → Type 0
+SendsActivations = InObject (codes "activations") (
+    Then (SendsNumber (codes "count")) (
+    Then (SendsPair (codes "least")) (
+    Then (SendsPair (codes "mean")) (
+    Then (SendsPair (codes "greatest")) (
+    SendsNumber (codes "greatest_from"))))))
+
+-- the calls that a thread made, in the order of their numbers, and those that are none (own)
+abbrev pub SendsCalls : Log → Log → Type 0
+SendsCalls = InArray (codes "calls") (Then (WritesEach (λ call. SendsCall (name_of call)) CALLS) (SendsCall (codes "no call")))
+
+-- the object of a thread of this number and these steps (own)
+abbrev pub SendsThread : ℕ → ℕ → Log → Log → Type 0
+SendsThread thread steps =
+    Then (Sends (map_begins None)) (
+    Then (SendsStanding thread steps) (
+    Then (SendsPair (codes "to_run")) (
+    Then SendsTicks (
+    Then SendsActivations (
+    Then SendsCalls (
+    Sends map_ends))))))
+
+-- the thread at a place, if there was one, with its steps (own)
+abbrev pub SendsThreadAt : Counted → ℕ → Log → Log → Type 0
+SendsThreadAt counted place = MaySend (SendsThread (place + 1) (slice_index (steps_by_thread counted) place))
+
+-- the threads, in the order of their numbers (own)
+abbrev pub SendsThreads : PartStatistics → Log → Log → Type 0
+SendsThreads part = InArray (codes "threads") (WritesEach (SendsThreadAt part.counted) (range_with_len 0 (min (length part.observed.threads.items) THREAD_LIMIT)))
+
+-- ---- a mutex
+
+-- a mutex's longest time, whose it was and from when on, and nothing where there was none (own)
+abbrev pub longest_member : List ℕ → Option Longest → List Event
+longest_member key None = []
+longest_member key (Some longest) = object_member key (
+    number_member (codes "own") longest.span.own
+    ∷ number_member (codes "all") longest.span.wall
+    ∷ number_member (codes "thread") longest.thread
+    ∷ number_member (codes "from") longest.from
+    ∷ [])
+
+-- some longest time under the key, if there was one (own)
+abbrev pub SendsLongest : List ℕ → Log → Log → Type 0
+SendsLongest key old new = (longest : Option Longest) × SendsAll (longest_member key longest) old new
+
+-- the object of the mutex of this number: for how long it was held and waited for (own)
+abbrev pub SendsMutex : ℕ → Log → Log → Type 0
+SendsMutex number =
+    Then (Sends (map_begins None)) (
+    Then (SendsAll (number_member (codes "mutex") number)) (
+    Then (SendsLongest (codes "held")) (
+    Then (SendsLongest (codes "waited")) (
+    Sends map_ends))))
+
+-- the mutex at a place, if somebody had it or waited for it (own)
+abbrev pub SendsMutexAt : ℕ → Log → Log → Type 0
+SendsMutexAt place = MaySend (SendsMutex (place + 1))
+
+-- the mutexes, in the order of their numbers (own)
+abbrev pub SendsMutexes : ℕ → Log → Log → Type 0
+SendsMutexes count = InArray (codes "mutexes") (WritesEach SendsMutexAt (range_with_len 0 count))
+
+-- ---- a partition
+
+-- the object of a partition of this name with this status and these figures (own)
+abbrev pub SendsFigures : List ℕ → PartStatus → PartStatistics → Log → Log → Type 0
+SendsFigures name status part =
+    Then (Sends (map_begins None)) (
+    Then (SendsAll (all_members (word_member (codes "name") name ∷ word_member (codes "status") (word_of_outcome status) ∷ []))) (
+    Then (SendsCounted part.counted) (
+    Then (SendsThreads part) (
+    Then (SendsMutexes (length part.observed.mutexes.items)) (
+    Sends map_ends)))))
+
+-- the text of such an object (RFC 8259 section 2)
+abbrev pub IsObject : List ℕ → PartStatus → PartStatistics → List ℕ → Type 0
+IsObject name status part bytes = (log : Log) × SendsFigures name status part (Some []) log × IsTextOf log bytes
