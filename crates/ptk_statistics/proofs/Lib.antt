@@ -2,3 +2,4 @@ pub mod Growing
 pub mod Sums
 pub mod Parts
 pub mod Sent
+pub mod Answered

@@ -3,3 +3,4 @@ pub mod Parts
 pub mod Asked
 pub mod Words
 pub mod Document
+pub mod Answered

@@ -1,13 +1,16 @@
 //! The answers to `stats`, as tables or as JSON.
 
-ghost use Rattle.std.specs.Prelude.{◌≡◌, ◌≢◌, ◌<◌, ◌≤◌, ◌↔◌, None, IfErr, IsTrue, MatchResult, OnOk, length};
+ghost use Rattle.std.specs.Prelude.{◌≡◌, ◌≢◌, ℕ, ◌<◌, ◌≤◌, ◌↔◌, List, ◌++◌, None, IfErr, IfOk, IsTrue, MatchResult, OnOk, length};
+ghost use Rattle.std.specs.Io.KnownBytes.{Appends};
 ghost use Rattle.ptk_words.specs.declared.TheConstants.{LAST_TICK};
 ghost use Rattle.ptk_main_runs.specs.declared.runs.RunFault.TheVariants.{NoPartition};
 ghost use Rattle.ptk_main_runs.specs.Missing.{first_missing};
 ghost use Rattle.ptk_main_runs.specs.RunFaults.{missing_in_run};
-ghost use Rattle.ptk_main_runs.specs.World.{section_at, state_of};
+ghost use Rattle.ptk_main_runs.specs.World.{section_at, state_of, world_at};
 ghost use Rattle.ptk_main_runs.specs.Told.{status_in};
 ghost use Rattle.ptk_statistics.specs.Asked.{IsAsked, is_asked};
+ghost use Rattle.ptk_statistics.specs.Answered.{IsObjectAt, PutsAsked, PutsDocument, PutsObjects, PutsRun, beginning_text, comma_before, is_place_asked};
+ghost use Rattle.ptk_statistics.specs.Document.{IsObject};
 
 use crate::blocks::put_block;
 use crate::document::{Figures, json_of};
@@ -52,6 +55,8 @@ pub fn stats_with<W: Write>(
     ensures missing { MatchResult result
         (λ _. first_missing files.now config.now.sections ≡ None)
         (λ fault. fault ≢ NoPartition → first_missing files.now config.now.sections ≡ missing_in_run fault) }
+    ensures json { OnOk result (form ≡ Form.Json →
+        PutsRun (world_at config.now files.now ticks) partition.entry (W.contents out.old) (W.contents out.new)) }
     ensures silent { IfErr result (λ fault. fault ≢ RunFault.Write →
         (form ≡ Form.Json → fault ≢ RunFault.Boot BootFault.Memory) → out.new ≡ out.old) }
 {
@@ -87,6 +92,8 @@ fn put_answer<W: Write>(
     ensures missing { MatchResult result
         (λ _. first_missing files.now config.now.sections ≡ None)
         (λ fault. first_missing files.now config.now.sections ≡ missing_in_run fault) }
+    ensures json { OnOk result (form ≡ Form.Json →
+        PutsRun (world_at config.now files.now ticks) partition.entry (W.contents out.old) (W.contents out.new)) }
     ensures silent { IfErr result (λ fault. fault ≢ RunFault.Write →
         (form ≡ Form.Json → fault ≢ RunFault.Boot BootFault.Memory) → out.new ≡ out.old) }
 {
@@ -114,7 +121,9 @@ fn put<W: Write>(
     partition: Option<&str>,
     out: &mut W,
 ) -> Result<(), PutFault>
-    ensures { IfErr result (λ fault. fault ≡ PutFault.Memory → form ≡ Form.Json) }
+    ensures memory { IfErr result (λ fault. fault ≡ PutFault.Memory → form ≡ Form.Json) }
+    ensures json { OnOk result (form ≡ Form.Json →
+        PutsDocument ticks system.now statistics.now.parts.items partition.entry (W.contents out.old) (W.contents out.new)) }
 {
     match form {
         Form::Tables => match put_tables(system, statistics, partition, out) {
@@ -149,22 +158,64 @@ fn put_document<'a, W: Write>(
     ticks: Tick,
     partition: Option<&str>,
     out: &mut W,
-) -> Result<(), PutFault> {
+) -> Result<(), PutFault>
+    ensures { OnOk result (PutsDocument ticks system.now statistics.now.parts.items partition.entry (W.contents out.old) (W.contents out.new)) }
+{
     put_beginning(ticks, out)?;
-    let parts = statistics.parts();
-    let mut is_first = true;
-    for i in 0..system.parts().min(parts.len()) {
-        if is_asked(system.config(), i, partition) {
-            put_object(alloc, &figures_of(system, i, &parts[i]), is_first, out)?;
-            is_first = false;
-        }
-    }
+    put_objects(alloc, system, statistics.parts(), partition, out)?;
     out.write_all(b"]}\n")?;
     Ok(())
 }
 
+/// Writes the JSON objects of the partitions that are asked for.
+fn put_objects<'a, W: Write>(
+    alloc: Global,
+    system: &'a System<'_>,
+    parts: &'a [PartStatistics],
+    partition: Option<&str>,
+    out: &mut W,
+) -> Result<(), PutFault>
+    ensures { OnOk result (PutsObjects system.now parts.now partition.entry (W.contents out.old) (W.contents out.new)) }
+{
+    let count = system.parts().min(parts.len());
+    let mut is_first = true;
+    for i in 0..count {
+        is_first = put_asked(alloc, system, parts, i, partition, is_first, out)?;
+    }
+    Ok(())
+}
+
+/// Writes the JSON object of the partition at a place, if it is asked for. Whether the next one is the first.
+fn put_asked<'a, W: Write>(
+    alloc: Global,
+    system: &'a System<'_>,
+    parts: &'a [PartStatistics],
+    place: usize,
+    partition: Option<&str>,
+    is_first: bool,
+    out: &mut W,
+) -> Result<bool, PutFault>
+    requires section { place < length system.now.config.sections }
+    requires part { place < length parts.now }
+    ensures { IfOk result (λ next. PutsAsked (is_place_asked system.now partition.entry place) (IsObjectAt system.now parts.now place)
+        is_first next (W.contents out.old) (W.contents out.new)) }
+{
+    if !is_asked(system.config(), place, partition) {
+        return Ok(is_first);
+    }
+    put_object(
+        alloc,
+        &figures_of(system, place, &parts[place]),
+        is_first,
+        out,
+    )?;
+    Ok(false)
+}
+
 /// Writes what is before the partitions in the JSON object of a run.
-fn put_beginning<W: Write>(ticks: Tick, out: &mut W) -> io::Result<()> {
+fn put_beginning<W: Write>(ticks: Tick, out: &mut W) -> io::Result<()>
+    ensures { OnOk result (Appends (W.contents out.old) (W.contents out.new) (beginning_text ticks)) }
+{
     let ticks = ticks.ticks();
     write!(
         out,
@@ -204,9 +255,19 @@ fn put_object<W: Write>(
     figures: &Figures<'_>,
     is_first: bool,
     out: &mut W,
-) -> Result<(), PutFault> {
+) -> Result<(), PutFault>
+    ensures { OnOk result ((text : List ℕ) × IsObject figures.now.name.now figures.now.status figures.now.part.now text
+        × Appends (W.contents out.old) (W.contents out.new) (comma_before is_first ++ text)) }
+{
     let text = json_of(alloc, figures)?;
-    let comma = if is_first { "" } else { "," };
+    let comma = comma_before(is_first);
     write!(out, "{comma}{text}")?;
     Ok(())
+}
+
+/// What is before the JSON object of a partition: a comma where it is not the first.
+fn comma_before(is_first: bool) -> &'static str
+    ensures { result.now ≡ comma_before is_first }
+{
+    if is_first { "" } else { "," }
 }

@@ -9,7 +9,11 @@
 //! - `stats_with` refuses a partition that no section names, and a run whose system does not boot (`known`, `unknown`,
 //!   `first`, `missing`). Nothing is written before another fault than the writer's, but in JSON where memory runs out
 //!   (`silent`).
-//! - What is written is tested.
+//! - The JSON that it writes is the object of the run, with those of the partitions that are asked for in ascending
+//!   order, and no other (`json`: `PutsRun`). Each has its section's name, its status, its ticks and its steps as they
+//!   were counted, and each thread's number with that thread's steps (`SendsFigures`).
+//! - Of threads, calls and mutexes it has the members of the definition, each under its key, with some numbers. Which
+//!   numbers they are is tested, and so are the tables.
 //!
 //! The run goes on by single decisions where a call or a change may come, by rows of plain steps between, and over
 //! ticks at which nothing is due at once. What each figure of a thread and of a mutex says is tested, and so are the
