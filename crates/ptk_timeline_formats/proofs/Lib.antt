@@ -1,3 +1,4 @@
 pub mod Lists
 pub mod Lines
 pub mod Texts
+pub mod Values

@@ -23,7 +23,7 @@ step_by until (Some entry) = Some (record { thread = entry.thread; until = until
 abbrev pub step_since : ℕ → ℕ → ℕ → State → Option Step
 step_since steps tick end s = if nat_lt steps s.account.steps then step_by (step_end tick end s) s.part.last else None
 
--- as `step_since`, and none from the window's end on
+-- as `step_since`, and none at the window's end
 abbrev pub step_within : ℕ → ℕ → ℕ → State → Option Step
 step_within steps tick end s = if tick == end then None else step_since steps tick end s
 

@@ -1,6 +1,7 @@
 -- What a dump has of what is shown of a partition, by tests of what is the same.
-use Rattle.std.specs.Prelude.{ℕ, ◌+◌, List, [], ◌∷◌, ◌++◌, Bool, not, if◌then◌else◌, Option, take}
+use Rattle.std.specs.Prelude.{ℕ, ◌+◌, ◌*◌, List, [], ◌∷◌, ◌++◌, Bool, not, if◌then◌else◌, Option, take}
 use Rattle.std.specs.Bool.{then_some}
+use Rattle.std.specs.List.{concat}
 use Rattle.ptk_words.specs.Names.{ThreadNumber}
 use Rattle.ptk_words.specs.declared.TheConstants.{THREAD_LIMIT}
 use Rattle.ptk_words_model.specs.State.{Part}
@@ -12,9 +13,9 @@ use Rattle.ptk_timeline_formats.specs.declared.change.Change.{Change}
 use Rattle.ptk_timeline_formats.specs.declared.change.Change.TheVariants.{Status, Runner}
 use Rattle.ptk_timeline_formats.specs.declared.view.PartView.{PartView}
 use Rattle.ptk_timeline_formats.specs.Shown.{is_step_of, runner_shown, shown_in, status_shown}
-use Rattle.ptk_timeline_formats.specs.Signals.{changes_lines, lines_at, shown_lines, tick_behind_all}
+use Rattle.ptk_timeline_formats.specs.Signals.{SIGNALS, bit_line, changes_lines, lines_at, number_or_none, priority_line, shown_lines, state_line, status_number, tick_behind_all, vector_line}
 
--- what a dump has at a tick of a thread that was shown so, behind a line of tick `at`: nothing where it is shown as before, else its lines (own)
+-- what a dump has at a tick of a thread that was shown so before, behind a line of tick `at`: nothing where it is shown so still, else its lines (own)
 abbrev pub thread_text : Bool → ℕ → ℕ → ℕ → ℕ → Shown → Shown → List ℕ
 thread_text is_same at tick p t before shown = if is_same then [] else lines_at at tick (shown_lines p t before shown)
 
@@ -37,3 +38,14 @@ part_text same_status same_runner same step s at tick p view =
     changes_lines at tick p (part_changes same_status same_runner step s view)
     ++ threads_text same (λ (t : ℕ). shown_in (is_step_of step t) t s)
     (tick_behind_all at tick (part_changes same_status same_runner step s view)) tick p 1 (take THREAD_LIMIT view.threads.items)
+
+-- the lines of the values of the threads from number t on (own)
+abbrev pub values_text : ℕ → ℕ → List ShownSince → List ℕ
+values_text p t [] = []
+values_text p t (kept ∷ rest) = (state_line p t kept.shown ++ priority_line p t kept.shown) ++ values_text p (t + 1) rest
+
+-- what a dump has of a partition's values at the first tick, whose line is before them: no window, its status, its running thread and its threads (own)
+abbrev pub first_text : ℕ → PartView → List ℕ
+first_text p view =
+    concat (bit_line 0 (p * SIGNALS) ∷ vector_line (status_number view.status) (p * SIGNALS + 1) ∷ vector_line (number_or_none view.runner) (p * SIGNALS + 2) ∷ [])
+    ++ values_text p 1 (take THREAD_LIMIT view.threads.items)

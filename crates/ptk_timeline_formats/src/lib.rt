@@ -11,8 +11,10 @@
 //!   `runner_shown`). Behind a decision the step, and the counts of steps, of lost ticks and of lost input, are the
 //!   system's (`kept` of `PartView::decide`, `go_on` and `mark`: `kept_in`, `step_within`).
 //! - The refusals are the definition's (`order` to `silent` of `dump_with`).
-//! - What a Value Change Dump has of changes is the definition's, tick by tick (`dump` of `Sheet::put_each`). What is
-//!   before the first of them is tested, and so are the bytes of trace events.
+//! - What a Value Change Dump has of changes is the definition's, tick by tick (`dump` of `Sheet::put_each`), and so is
+//!   which changes a view writes: of what is shown, all that is not as before (`dump` of `PartView::show`, `decide`,
+//!   `go_on` and `settle`: `part_text`), and all of it at the first tick (`dump` of `PartView::put_all`:
+//!   `first_text`). What is before the first of them is tested, and so are the bytes of trace events.
 //!
 //! GTKWave opens the first (IEEE 1364-2005, section 18), Perfetto and chrome://tracing the second. Both go from change
 //! to change and keep of each thread what was shown of it last, so memory does not grow with the run. Below are the

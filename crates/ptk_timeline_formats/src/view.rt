@@ -7,7 +7,7 @@ ghost use Rattle.ptk_main_runs.specs.World.{at_tick, but_next, state_of};
 ghost use Rattle.ptk_timeline_formats.specs.declared.sheet.Form.TheVariants.{Vcd};
 ghost use Rattle.ptk_timeline_formats.specs.Shown.{AreShown, kept_in, runner_shown, start_in, status_shown};
 ghost use Rattle.ptk_timeline_formats.specs.Steps.{is_step_over, step_since, step_within, tick_behind_step};
-ghost use Rattle.ptk_timeline_formats.specs.Texts.{part_text};
+ghost use Rattle.ptk_timeline_formats.specs.Texts.{first_text, part_text};
 
 use crate::change::{Change, ShownSince};
 use crate::sheet::Sheet;
@@ -69,6 +69,7 @@ impl PartView {
         requires within { sheet.old.at ≤ sheet.old.to }
         ensures within { sheet.new.at ≤ sheet.old.at }
         ensures to { sheet.new.to ≡ sheet.old.to }
+        ensures dump { sheet.old.form ≡ Vcd → OnOk result (Appends (W.contents out.old) (W.contents out.new) (first_text p self.now)) }
     {
         let tick = sheet.at();
         let first = [
@@ -158,11 +159,7 @@ impl PartView {
         ensures to { sheet.new.to ≡ sheet.old.to }
         ensures step { self.new.step ≡ self.old.step }
         ensures kept { MatchBool (is_step_over due end self.old.step)
-            (self.new ≡ record self.old {
-              status = status_shown None (state_of system.now p).part;
-              runner = runner_shown None (state_of system.now p).part;
-              threads = self.new.threads;
-            })
+            (self.new ≡ record self.old { status = status_shown None (state_of system.now p).part; runner = runner_shown None (state_of system.now p).part; threads = self.new.threads })
             ((self.new ≡ self.old) × (sheet.new ≡ sheet.old) × (out.new ≡ out.old)) }
         ensures shown { MatchBool (is_step_over due end self.old.step)
             (OnOk result (AreShown None (state_of system.now p).part self.new.threads.items)) ⊤ }
@@ -240,13 +237,7 @@ impl PartView {
         ensures kept { let begin = tick_behind_step tick self.old.step in
             MatchOption (step_within self.old.steps begin end (state_of system.now p))
             ((self.new ≡ self.old) × (sheet.new ≡ sheet.old) × (out.new ≡ out.old))
-            (λ step. OnOk result (self.new ≡ record self.old {
-              status = status_shown (Some step) (state_of system.now p).part;
-              runner = runner_shown (Some step) (state_of system.now p).part;
-              threads = self.new.threads;
-              step = Some step;
-              steps = (state_of system.now p).account.steps;
-            })) }
+            (λ step. OnOk result (self.new ≡ record self.old { status = status_shown (Some step) (state_of system.now p).part; runner = runner_shown (Some step) (state_of system.now p).part; threads = self.new.threads; step = Some step; steps = (state_of system.now p).account.steps })) }
         ensures shown { let begin = tick_behind_step tick self.old.step in
             IfSome (step_within self.old.steps begin end (state_of system.now p))
             (λ step. OnOk result (AreShown (Some step) (state_of system.now p).part self.new.threads.items)) }
@@ -285,11 +276,7 @@ impl PartView {
         ensures within { sheet.new.at ≤ tick }
         ensures to { sheet.new.to ≡ sheet.old.to }
         ensures step { self.new.step ≡ self.old.step }
-        ensures kept { self.new ≡ record self.old {
-          status = status_shown step.now (state_of system.now p).part;
-          runner = runner_shown step.now (state_of system.now p).part;
-          threads = self.new.threads;
-        } }
+        ensures kept { self.new ≡ record self.old { status = status_shown step.now (state_of system.now p).part; runner = runner_shown step.now (state_of system.now p).part; threads = self.new.threads } }
         ensures shown { OnOk result (AreShown step.now (state_of system.now p).part self.new.threads.items) }
         ensures count { vec_len self.new.threads ≡ vec_len self.old.threads }
         ensures form { sheet.new.form ≡ sheet.old.form }
@@ -324,10 +311,7 @@ impl PartView {
         ensures within { sheet.new.at ≤ tick }
         ensures to { sheet.new.to ≡ sheet.old.to }
         ensures step { self.new.step ≡ self.old.step }
-        ensures kept { self.new ≡ record self.old {
-          lost = (state_of system.now p).account.lost;
-          dropped = (state_of system.now p).part.console.dropped;
-        } }
+        ensures kept { self.new ≡ record self.old { lost = (state_of system.now p).account.lost; dropped = (state_of system.now p).part.console.dropped } }
         ensures form { sheet.new.form ≡ sheet.old.form }
         ensures dump { sheet.old.form ≡ Vcd → OnOk result (Appends (W.contents out.old) (W.contents out.new) []) }
     {
