@@ -4,7 +4,6 @@ use Rattle.std.specs.Io.KnownBytes.{Appends}
 use Rattle.ptk_words.specs.declared.TheConstants.{THREAD_LIMIT}
 use Rattle.ptk_main_runs.specs.World.{state_of}
 use Rattle.ptk_timeline_formats.specs.declared.change.ShownSince.{ShownSince}
-use Rattle.ptk_timeline_formats.specs.declared.sheet.Form.TheVariants.{Vcd}
 use Rattle.ptk_timeline_formats.specs.contracts.shown.ShownPartialEq.TheImpl as shown_eq
 use Rattle.ptk_timeline_formats.specs.Shown.{is_step_of, shown_in}
 use Rattle.ptk_timeline_formats.specs.Texts.{thread_text}
