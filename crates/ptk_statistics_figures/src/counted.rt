@@ -4,7 +4,7 @@ ghost use Rattle.std.specs.Prelude.{◌≡◌, ◌+◌, ◌-◌, ◌<◌, ◌≤
 ghost use Rattle.ptk_words.specs.declared.TheConstants.{LAST_TICK, THREAD_LIMIT};
 ghost use Rattle.ptk_words_windows.specs.Windows.{OwnTicks, own_ticks};
 ghost use Rattle.ptk_statistics_figures.specs.Own.{IsOwnWindow, own_below};
-ghost use Rattle.ptk_statistics_figures.specs.Counts.{Adds, counted_ticks, lost_in, reached, steps_by_thread, steps_in};
+ghost use Rattle.ptk_statistics_figures.specs.Counts.{Adds, counted_ticks, lost_in, reached, share_of, steps_by_thread, steps_in};
 
 use crate::own::{OwnWindow, own_between};
 use ptk_window::{Near, WindowPlan};
@@ -12,7 +12,7 @@ use ptk_words::{PartId, THREAD_LIMIT, ThreadNo, Tick};
 
 /// What became of a tick in a window of a partition, where it was not lost.
 #[derive(Clone, Copy)]
-enum Share {
+pub(crate) enum Share {
     /// A step took it.
     Used,
     /// There was nothing to do.
@@ -123,7 +123,9 @@ impl Counted {
     }
 
     /// What becomes of the ticks behind that decision, of a partition that has made this many steps.
-    fn share_of(&self, steps: u64) -> Share {
+    fn share_of(&self, steps: u64) -> Share
+        ensures { result ≡ share_of steps self.now }
+    {
         if self.is_halted {
             Share::Halted
         } else if self.made < steps {

@@ -1,7 +1,8 @@
 //! The kinds of what a thread does.
 
-ghost use Rattle.std.specs.Prelude.{◌<◌};
+ghost use Rattle.std.specs.Prelude.{◌≡◌, ◌<◌};
 ghost use Rattle.ptk_statistics_figures.specs.declared.doing.TheConstants.{DOINGS};
+ghost use Rattle.ptk_statistics_figures.specs.Doings.{is_block, is_blocked, is_dispatch, is_free, is_running, is_wake, place_of_doing};
 
 /// How many kinds there are.
 pub(crate) const DOINGS: usize = 11;
@@ -36,7 +37,8 @@ pub enum Doing {
 impl Doing {
     /// Its place among the kinds, from 0.
     pub(crate) fn place(self) -> usize
-        ensures { result < DOINGS }
+        ensures value { result ≡ place_of_doing self }
+        ensures within { result < DOINGS }
     {
         match self {
             Doing::Free => 0,
@@ -54,15 +56,88 @@ impl Doing {
     }
 
     /// Whether it is blocked.
-    pub fn is_blocked(self) -> bool {
-        matches!(
-            self,
+    pub fn is_blocked(self) -> bool
+        ensures { result ≡ is_blocked self }
+    {
+        match self {
             Doing::Input
-                | Doing::Sleep
-                | Doing::Join
-                | Doing::Mutex
-                | Doing::Condition
-                | Doing::Relock
-        )
+            | Doing::Sleep
+            | Doing::Join
+            | Doing::Mutex
+            | Doing::Condition
+            | Doing::Relock => true,
+            Doing::Free | Doing::Running | Doing::Ready | Doing::Ended | Doing::Halted => false,
+        }
+    }
+
+    /// Whether no thread has the number.
+    pub(crate) fn is_free(self) -> bool
+        ensures { result ≡ is_free self }
+    {
+        match self {
+            Doing::Free => true,
+            Doing::Running
+            | Doing::Ready
+            | Doing::Input
+            | Doing::Sleep
+            | Doing::Join
+            | Doing::Mutex
+            | Doing::Condition
+            | Doing::Relock
+            | Doing::Ended
+            | Doing::Halted => false,
+        }
+    }
+
+    /// Whether it is running.
+    fn is_running(self) -> bool
+        ensures { result ≡ is_running self }
+    {
+        match self {
+            Doing::Running => true,
+            Doing::Free
+            | Doing::Ready
+            | Doing::Input
+            | Doing::Sleep
+            | Doing::Join
+            | Doing::Mutex
+            | Doing::Condition
+            | Doing::Relock
+            | Doing::Ended
+            | Doing::Halted => false,
+        }
+    }
+
+    /// Whether a thread that goes from this to another kind is dispatched: it was ready, and runs (XSH 2.8.4).
+    pub(crate) fn is_dispatch(self, to: Doing) -> bool
+        ensures { result ≡ is_dispatch self to }
+    {
+        match self {
+            Doing::Ready => to.is_running(),
+            Doing::Free
+            | Doing::Running
+            | Doing::Input
+            | Doing::Sleep
+            | Doing::Join
+            | Doing::Mutex
+            | Doing::Condition
+            | Doing::Relock
+            | Doing::Ended
+            | Doing::Halted => false,
+        }
+    }
+
+    /// Whether a thread that goes from this to another kind wakes: it was blocked, and is not any more.
+    pub(crate) fn is_wake(self, to: Doing) -> bool
+        ensures { result ≡ is_wake self to }
+    {
+        self.is_blocked() && !to.is_blocked()
+    }
+
+    /// Whether a thread that goes from this to another kind blocks: it was not blocked, and is now.
+    pub(crate) fn is_block(self, to: Doing) -> bool
+        ensures { result ≡ is_block self to }
+    {
+        !self.is_blocked() && to.is_blocked()
     }
 }

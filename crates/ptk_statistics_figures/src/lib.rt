@@ -8,9 +8,12 @@
 //!   `used`, `idle`, `lost` and `halted` make up the partition's own ticks below the tick counted to (`own_below`).
 //! - Its steps and its lost ticks, below that tick and ahead of it, are those shown (`steps`, `lost`).
 //! - A call has the name of the definition (`name_of`), that of its page in the standard.
+//! - Each call on a `ThreadStatistics` or a `MutexStatistics` leaves what its definition says (`turned`, `with_call`,
+//!   `with_refusal`, `owned_from`, `waited_from`), and each getter returns what is there: times are those between two
+//!   moments; of activations the number, the least, the mean and the greatest; of a mutex the longest times.
 //!
-//! Which own tick was used, idle or after the halt is tested, and so is all of threads and mutexes. Below is the window
-//! plan; above are the figures of a run, `ptk_statistics`. No clause is costly to prove.
+//! Which own tick was used, idle or after the halt is tested. Below is the window plan; above are the figures of a run,
+//! `ptk_statistics`. No clause is costly to prove.
 
 mod calls;
 mod counted;

@@ -1,7 +1,10 @@
 //! The figures of a thread number.
 
-ghost use Rattle.std.specs.Prelude.{◌<◌};
+ghost use Rattle.std.specs.Prelude.{◌≡◌, ◌<◌, IfOk, Some, replicate};
+ghost use Rattle.ptk_words.specs.Calls.{number_of};
 ghost use Rattle.ptk_statistics_figures.specs.declared.thread.TheConstants.{NUMBERS};
+ghost use Rattle.ptk_statistics_figures.specs.Times.{capped_sum};
+ghost use Rattle.ptk_statistics_figures.specs.Threads.{activations_at_turn, calls_at, dispatch_at_turn, is_used, lesser_pointer, new_thread, no_calls, one_made, one_refused, other_calls, place_of, spans_until, time_of, turned, with_call, with_refusal, woken_at_turn};
 
 use crate::doing::{DOINGS, Doing};
 use crate::moment::{Moment, Span, Spread};
@@ -11,7 +14,7 @@ use std::alloc::{AllocError, Global};
 
 /// How many numbers of calls are counted apart: those of all calls are below, and the last stands for all other
 /// numbers.
-const NUMBERS: usize = 64;
+pub(crate) const NUMBERS: usize = 64;
 
 /// How often a call was made, and how often its reply was not 0.
 #[derive(Clone, Copy)]
@@ -20,6 +23,32 @@ pub struct CallCount {
     pub made: u64,
     /// How often its reply was an error.
     pub refused: u64,
+}
+
+impl CallCount {
+    /// It was never made.
+    fn none() -> CallCount
+        ensures { result ≡ no_calls }
+    {
+        CallCount {
+            made: 0,
+            refused: 0,
+        }
+    }
+
+    /// It was made once more.
+    fn make(&mut self)
+        ensures { self.new ≡ one_made self.old }
+    {
+        self.made = self.made.saturating_add(1);
+    }
+
+    /// Its reply was an error once more.
+    fn refuse(&mut self)
+        ensures { self.new ≡ one_refused self.old }
+    {
+        self.refused = self.refused.saturating_add(1);
+    }
 }
 
 /// A call that has no reply yet: the place of its number, and the pc behind it.
@@ -49,16 +78,15 @@ pub struct ThreadStatistics {
 
 impl ThreadStatistics {
     /// A number that does this from the first tick on.
-    fn new(doing: Doing) -> ThreadStatistics {
+    fn new(doing: Doing) -> ThreadStatistics
+        ensures { result ≡ new_thread doing }
+    {
         ThreadStatistics {
             spans: [Span::none(); DOINGS],
             doing,
             since: Moment { own: 0, tick: 0 },
             mutex: None,
-            calls: [CallCount {
-                made: 0,
-                refused: 0,
-            }; NUMBERS],
+            calls: [CallCount::none(); NUMBERS],
             pending: None,
             woken: None,
             activations: Spread::none(),
@@ -69,158 +97,244 @@ impl ThreadStatistics {
     }
 
     /// It does this at the first tick.
-    pub fn begin(&mut self, doing: Doing) {
+    pub fn begin(&mut self, doing: Doing)
+        ensures { self.new ≡ record self.old { doing = doing } }
+    {
         self.doing = doing;
     }
 
     /// It does this from a moment on.
-    pub fn turn_to(&mut self, doing: Doing, at: Moment) {
+    pub fn turn_to(&mut self, doing: Doing, at: Moment)
+        ensures { self.new ≡ turned doing at self.old }
+    {
+        let dispatch = self.dispatch_at_turn(doing, at);
+        let activations = self.activations_at_turn(doing, at);
+        let woken = self.woken_at_turn(doing, at);
         self.pass(at);
-        if self.doing == Doing::Ready && doing == Doing::Running {
-            self.dispatch.raise(at.since(self.since));
-        }
-        if self.doing.is_blocked() && !doing.is_blocked() {
-            self.woken = Some(at);
-        }
-        if doing.is_blocked() && !self.doing.is_blocked() {
-            self.end_activation(at);
-        }
+        self.dispatch = dispatch;
+        self.activations = activations;
+        self.woken = woken;
         self.doing = doing;
         self.since = at;
     }
 
     /// Counts the time up to a moment.
-    fn pass(&mut self, at: Moment) {
+    fn pass(&mut self, at: Moment)
+        ensures { self.new ≡ record self.old { spans = spans_until at self.old } }
+    {
         self.spans[self.doing.place()].add(at.since(self.since));
     }
 
-    /// The activation that is under way, if one is, ends with a wait.
-    fn end_activation(&mut self, at: Moment) {
-        if let Some(woken) = self.woken {
-            self.activations.add(at.since(woken), woken.tick);
-            self.woken = None;
+    /// The greatest time from ready to running, where it does this from a moment on.
+    fn dispatch_at_turn(&self, doing: Doing, at: Moment) -> Span
+        ensures { result ≡ dispatch_at_turn doing at self.now }
+    {
+        if !self.doing.is_dispatch(doing) {
+            return self.dispatch;
+        }
+        let mut dispatch = self.dispatch;
+        dispatch.raise(at.since(self.since));
+        dispatch
+    }
+
+    /// The activations, where it does this from a moment on: the one that is under way, if one is, ends with a wait.
+    fn activations_at_turn(&self, doing: Doing, at: Moment) -> Spread
+        ensures { result ≡ activations_at_turn doing at self.now }
+    {
+        if !self.doing.is_block(doing) {
+            return self.activations;
+        }
+        let mut activations = self.activations;
+        match self.woken {
+            Some(woken) => {
+                activations.add(at.since(woken), woken.tick);
+                activations
+            }
+            None => activations,
+        }
+    }
+
+    /// When the activation began that is under way, where it does this from a moment on.
+    fn woken_at_turn(&self, doing: Doing, at: Moment) -> Option<Moment>
+        ensures { result ≡ woken_at_turn doing at self.now }
+    {
+        if self.doing.is_wake(doing) {
+            return Some(at);
+        }
+        if self.doing.is_block(doing) {
+            None
+        } else {
+            self.woken
         }
     }
 
     /// The run ends.
-    pub fn finish(&mut self, at: Moment) {
+    pub fn finish(&mut self, at: Moment)
+        ensures { self.new ≡ record self.old { spans = spans_until at self.old } }
+    {
         self.pass(at);
     }
 
     /// It waits for this mutex.
-    pub fn wait_for(&mut self, mutex: Option<MutexNo>) {
+    pub fn wait_for(&mut self, mutex: Option<MutexNo>)
+        ensures { self.new ≡ record self.old { mutex = mutex } }
+    {
         self.mutex = mutex;
     }
 
     /// The mutex that it waits for.
-    pub fn mutex(&self) -> Option<MutexNo> {
+    pub fn mutex(&self) -> Option<MutexNo>
+        ensures { result ≡ self.now.mutex }
+    {
         self.mutex
     }
 
     /// From which moment on it does what it does.
-    pub fn since_moment(&self) -> Moment {
+    pub fn since_moment(&self) -> Moment
+        ensures { result ≡ self.now.since }
+    {
         self.since
     }
 
     /// It ceased to run, and neither waits nor gave way.
-    pub fn preempt(&mut self) {
+    pub fn preempt(&mut self)
+        ensures { self.new ≡ record self.old { preemptions = capped_sum self.old.preemptions 1 } }
+    {
         self.preemptions = self.preemptions.saturating_add(1);
     }
 
     /// It makes a call of this number.
-    pub fn call(&mut self, number: u32) {
-        let place = place_of(number);
-        self.calls[place].made = self.calls[place].made.saturating_add(1);
+    pub fn call(&mut self, number: u32)
+        ensures { self.new ≡ with_call number self.old }
+    {
+        self.calls[place_of(number)].make();
     }
 
     /// The reply to a call of this number is an error.
-    pub fn refuse(&mut self, number: u32) {
-        let place = place_of(number);
-        self.calls[place].refused = self.calls[place].refused.saturating_add(1);
+    pub fn refuse(&mut self, number: u32)
+        ensures { self.new ≡ with_refusal number self.old }
+    {
+        self.calls[place_of(number)].refuse();
     }
 
     /// Its call has no reply yet, or none is awaited.
-    pub fn await_reply(&mut self, pending: Option<Pending>) {
+    pub fn await_reply(&mut self, pending: Option<Pending>)
+        ensures { self.new ≡ record self.old { pending = pending } }
+    {
         self.pending = pending;
     }
 
     /// The call to which it awaits a reply.
-    pub fn pending(&self) -> Option<Pending> {
+    pub fn pending(&self) -> Option<Pending>
+        ensures { result ≡ self.now.pending }
+    {
         self.pending
     }
 
     /// A stack pointer of it was seen.
-    pub fn see_stack(&mut self, pointer: u32) {
-        let least = match self.least_stack {
-            Some(least) => least.min(pointer),
-            None => pointer,
-        };
-        self.least_stack = Some(least);
+    pub fn see_stack(&mut self, pointer: u32)
+        ensures { self.new ≡ record self.old { least_stack = Some (lesser_pointer self.old.least_stack pointer) } }
+    {
+        self.least_stack = Some(lesser_pointer(self.least_stack, pointer));
     }
 
     /// What it does.
-    pub fn doing(&self) -> Doing {
+    pub fn doing(&self) -> Doing
+        ensures { result ≡ self.now.doing }
+    {
         self.doing
     }
 
     /// The tick from which on it does what it does, in the end.
-    pub fn since(&self) -> Tick {
+    pub fn since(&self) -> Tick
+        ensures { result ≡ self.now.since.tick }
+    {
         Tick::new(self.since.tick)
     }
 
     /// For how long it did this in all.
-    pub fn span(&self, doing: Doing) -> Span {
+    pub fn span(&self, doing: Doing) -> Span
+        ensures { result ≡ time_of doing self.now }
+    {
         self.spans[doing.place()]
     }
 
     /// How often it made a call.
-    pub fn calls(&self, call: Call) -> CallCount {
+    pub fn calls(&self, call: Call) -> CallCount
+        ensures { result ≡ calls_at (number_of call) self.now }
+    {
         self.calls[place_of(call.number())]
     }
 
     /// How often it made an ECALL with a number that is no call.
-    pub fn unknown_calls(&self) -> CallCount {
+    pub fn unknown_calls(&self) -> CallCount
+        ensures { result ≡ other_calls self.now }
+    {
         self.calls[NUMBERS - 1]
     }
 
     /// Its activations: each from a wake to the end of the step with which it blocks next.
-    pub fn activations(&self) -> &Spread {
+    pub fn activations(&self) -> &Spread
+        ensures { result.now ≡ self.now.activations }
+    {
         &self.activations
     }
 
     /// The greatest time from ready to running.
-    pub fn dispatch(&self) -> Span {
+    pub fn dispatch(&self) -> Span
+        ensures { result ≡ self.now.dispatch }
+    {
         self.dispatch
     }
 
     /// How often it ceased to run and was ready, but by its own sched_yield.
-    pub fn preemptions(&self) -> u64 {
+    pub fn preemptions(&self) -> u64
+        ensures { result ≡ self.now.preemptions }
+    {
         self.preemptions
     }
 
     /// The least stack pointer that was seen: behind its calls, where it was switched to, and behind rows of plain
     /// steps. None where none was.
-    pub fn least_stack(&self) -> Option<u32> {
+    pub fn least_stack(&self) -> Option<u32>
+        ensures { result ≡ self.now.least_stack }
+    {
         self.least_stack
     }
 
     /// Whether a thread had the number at some time.
-    pub fn is_used(&self) -> bool {
-        self.least_stack.is_some() || self.doing != Doing::Free
+    pub fn is_used(&self) -> bool
+        ensures { result ≡ is_used self.now }
+    {
+        self.least_stack.is_some() || !self.doing.is_free()
     }
 }
 
-/// The place at which calls of a number are counted.
+/// The lesser of the least stack pointer so far, if there was one, and another.
+fn lesser_pointer(so_far: Option<u32>, pointer: u32) -> u32
+    ensures { result ≡ lesser_pointer so_far pointer }
+{
+    match so_far {
+        Some(least) => least.min(pointer),
+        None => pointer,
+    }
+}
+
+/// The place at which calls of a number are counted: that of a call is its number, and the last one is that of all
+/// other numbers.
 fn place_of(number: u32) -> usize
-    ensures { result < NUMBERS }
+    ensures value { result ≡ place_of number }
+    ensures within { result < NUMBERS }
 {
     match Call::of_number(number) {
-        Some(_) => (number as usize).min(NUMBERS - 1),
+        Some(call) => call.number() as usize,
         None => NUMBERS - 1,
     }
 }
 
 /// This many numbers that no thread has had. An error where memory ran out.
-pub fn free_numbers(alloc: Global, count: usize) -> Result<Vec<ThreadStatistics>, AllocError> {
+pub fn free_numbers(alloc: Global, count: usize) -> Result<Vec<ThreadStatistics>, AllocError>
+    ensures { IfOk result (λ threads. threads.items ≡ replicate count (new_thread Doing.Free)) }
+{
     repeated(alloc, ThreadStatistics::new(Doing::Free), count)
 }
