@@ -1,18 +1,25 @@
 -- What the JSON object of a partition holds, as what is sent of it to a writer of JSON (docs/FORMATS.md, "Figures of a run").
-use Rattle.std.specs.Prelude.{◌≡◌, ◌⊎◌, ℕ, ◌+◌, ◌≤◌, List, [], ◌∷◌, ◌++◌, Option, Some, None, codes, flat_map, if◌then◌else◌, ◌==◌, length, min, slice_index}
-use Rattle.std.specs.List.{range_with_len}
+use Rattle.std.specs.Prelude.{◌≡◌, ℕ, ◌+◌, ◌≤◌, Bool, true, false, List, [], ◌∷◌, ◌++◌, Option, Some, None, codes, flat_map, if◌then◌else◌, ◌==◌, length, min, slice_index}
+use Rattle.std.specs.List.{HoldsAt, range_with_len}
 use Rattle.serde.specs.Event.{Event, Log, Sends, Then, WritesEach, unsigned, text, seq_begins, seq_ends, map_begins, map_ends, field_key}
 use Rattle.serde_json.specs.Sent.{IsTextOf}
 use Rattle.serde.specs.declared.name.Case.TheVariants.{AsIs}
+use Rattle.ptk_words.specs.declared.calls.Call.{Call}
+use Rattle.ptk_words.specs.Calls.{number_of}
 use Rattle.ptk_words.specs.declared.TheConstants.{LAST_TICK, THREAD_LIMIT}
 use Rattle.ptk_statistics_figures.specs.declared.counted.Counted.{Counted}
 use Rattle.ptk_statistics_figures.specs.declared.moment.Span.{Span}
 use Rattle.ptk_statistics_figures.specs.declared.thread.CallCount.{CallCount}
 use Rattle.ptk_statistics_figures.specs.declared.moment.Longest.{Longest}
-use Rattle.ptk_statistics_figures.specs.declared.doing.Doing.{Doing}
+use Rattle.ptk_statistics_figures.specs.declared.moment.Spread.{Spread}
+use Rattle.ptk_statistics_figures.specs.declared.mutex.MutexStatistics.{MutexStatistics}
+use Rattle.ptk_statistics_figures.specs.declared.thread.ThreadStatistics.{ThreadStatistics}
 use Rattle.ptk_statistics_figures.specs.declared.calls.TheConstants.{CALLS}
 use Rattle.ptk_statistics_figures.specs.CallNames.{name_of}
 use Rattle.ptk_statistics_figures.specs.Counts.{counted_ticks, steps_by_thread, steps_in}
+use Rattle.ptk_statistics_figures.specs.Lengths.{mean_of}
+use Rattle.ptk_statistics_figures.specs.Mutexes.{is_mutex_used}
+use Rattle.ptk_statistics_figures.specs.Threads.{calls_at, is_used, other_calls, time_of}
 use Rattle.ptk_main_runs.specs.Members.{SendsAll, optional_value, value_event}
 use Rattle.ptk_main_runs.specs.PartStatus.{PartStatus}
 use Rattle.ptk_statistics.specs.declared.words.TheConstants.{KINDS}
@@ -53,9 +60,10 @@ InObject key inside = Then (Sends (field_key key AsIs)) (Then (Sends (map_begins
 abbrev pub InArray : List ℕ → (Log → Log → Type 0) → Log → Log → Type 0
 InArray key inside = Then (Sends (field_key key AsIs)) (Then (Sends (seq_begins None)) (Then inside (Sends seq_ends)))
 
--- this, or nothing (own)
-abbrev pub MaySend : (Log → Log → Type 0) → Log → Log → Type 0
-MaySend part old new = (new ≡ old) ⊎ part old new
+-- this where it is wanted, and else nothing (own)
+abbrev pub SendsIf : Bool → (Log → Log → Type 0) → Log → Log → Type 0
+SendsIf true part old new = part old new
+SendsIf false part old new = new ≡ old
 
 -- ---- a partition's ticks and steps
 
@@ -89,69 +97,61 @@ call_item name count = object (word_member (codes "call") name ∷ number_member
 abbrev pub call_items : List ℕ → CallCount → List Event
 call_items name count = if count.made == 0 then [] else call_item name count
 
--- how a thread stands: its number, what it does, and since when; its steps and preemptions; its least stack pointer (own)
-abbrev pub standing_members : ℕ → ℕ → Doing → ℕ → ℕ → Option ℕ → List Event
-standing_members thread steps does since preemptions least = all_members (
-    number_member (codes "thread") thread
-    ∷ word_member (codes "does") (word_of_doing does)
-    ∷ number_member (codes "since") since
+-- how a thread of this number and these steps stands: what it does, and since when; its steps and preemptions; its least stack pointer (own)
+abbrev pub standing_members : ℕ → ℕ → ThreadStatistics → List Event
+standing_members number steps thread = all_members (
+    number_member (codes "thread") number
+    ∷ word_member (codes "does") (word_of_doing thread.doing)
+    ∷ number_member (codes "since") thread.since.tick
     ∷ number_member (codes "steps") steps
-    ∷ number_member (codes "preemptions") preemptions
-    ∷ optional_member (codes "least_stack") least
+    ∷ number_member (codes "preemptions") thread.preemptions
+    ∷ optional_member (codes "least_stack") thread.least_stack
     ∷ [])
 
--- some number under the key (own)
-abbrev pub SendsNumber : List ℕ → Log → Log → Type 0
-SendsNumber key old new = (number : ℕ) × SendsAll (number_member key number) old new
-
--- some pair under the key (own)
-abbrev pub SendsPair : List ℕ → Log → Log → Type 0
-SendsPair key old new = (span : Span) × SendsAll (pair_member key span) old new
-
--- the call of this name, if it was made (own)
-abbrev pub SendsCall : List ℕ → Log → Log → Type 0
-SendsCall name old new = (count : CallCount) × SendsAll (call_items name count) old new
-
--- how a thread of this number and these steps stands (own)
-abbrev pub SendsStanding : ℕ → ℕ → Log → Log → Type 0
-SendsStanding thread steps old new =
-    (does : Doing) × (since : ℕ) × (preemptions : ℕ) × (least : Option ℕ) × SendsAll (standing_members thread steps does since preemptions least) old new
-
 -- for how long a thread did what: a pair for each kind, by its word (own)
-abbrev pub SendsTicks : Log → Log → Type 0
-SendsTicks = InObject (codes "ticks") (WritesEach (λ kind. SendsPair (word_of_doing kind)) KINDS)
+abbrev pub SendsTicks : ThreadStatistics → Log → Log → Type 0
+SendsTicks thread = InObject (codes "ticks") (WritesEach (λ kind. SendsAll (pair_member (word_of_doing kind) (time_of kind thread))) KINDS)
 
 -- a thread's activations: their number, the least, the mean and the greatest, and from when on that was (own)
-abbrev pub SendsActivations : Log → Log → Type 0
-SendsActivations = InObject (codes "activations") (
-    Then (SendsNumber (codes "count")) (
-    Then (SendsPair (codes "least")) (
-    Then (SendsPair (codes "mean")) (
-    Then (SendsPair (codes "greatest")) (
-    SendsNumber (codes "greatest_from"))))))
+abbrev pub SendsActivations : Spread → Log → Log → Type 0
+SendsActivations spread = InObject (codes "activations") (
+    Then (SendsAll (number_member (codes "count") spread.count)) (
+    Then (SendsAll (pair_member (codes "least") spread.least)) (
+    Then (SendsAll (pair_member (codes "mean") (mean_of spread))) (
+    Then (SendsAll (pair_member (codes "greatest") spread.greatest)) (
+    SendsAll (number_member (codes "greatest_from") spread.greatest_from))))))
+
+-- a call, if the thread made it (own)
+abbrev pub SendsCall : ThreadStatistics → Call → Log → Log → Type 0
+SendsCall thread call = SendsAll (call_items (name_of call) (calls_at (number_of call) thread))
 
 -- the calls that a thread made, in the order of their numbers, and those that are none (own)
-abbrev pub SendsCalls : Log → Log → Type 0
-SendsCalls = InArray (codes "calls") (Then (WritesEach (λ call. SendsCall (name_of call)) CALLS) (SendsCall (codes "no call")))
+abbrev pub SendsCalls : ThreadStatistics → Log → Log → Type 0
+SendsCalls thread = InArray (codes "calls") (Then (WritesEach (SendsCall thread) CALLS) (SendsAll (call_items (codes "no call") (other_calls thread))))
 
 -- the object of a thread of this number and these steps (own)
-abbrev pub SendsThread : ℕ → ℕ → Log → Log → Type 0
-SendsThread thread steps =
+abbrev pub SendsThread : ℕ → ℕ → ThreadStatistics → Log → Log → Type 0
+SendsThread number steps thread =
     Then (Sends (map_begins None)) (
-    Then (SendsStanding thread steps) (
-    Then (SendsPair (codes "to_run")) (
-    Then SendsTicks (
-    Then SendsActivations (
-    Then SendsCalls (
+    Then (SendsAll (standing_members number steps thread)) (
+    Then (SendsAll (pair_member (codes "to_run") thread.dispatch)) (
+    Then (SendsTicks thread) (
+    Then (SendsActivations thread.activations) (
+    Then (SendsCalls thread) (
     Sends map_ends))))))
 
+-- the thread of this number, if there was one, with these steps (own)
+abbrev pub SendsUsedThread : ℕ → ℕ → ThreadStatistics → Log → Log → Type 0
+SendsUsedThread number steps thread = SendsIf (is_used thread) (SendsThread number steps thread)
+
 -- the thread at a place, if there was one, with its steps (own)
-abbrev pub SendsThreadAt : Counted → ℕ → Log → Log → Type 0
-SendsThreadAt counted place = MaySend (SendsThread (place + 1) (slice_index (steps_by_thread counted) place))
+abbrev pub SendsThreadAt : PartStatistics → ℕ → Log → Log → Type 0
+SendsThreadAt part place old new =
+    HoldsAt (λ thread. SendsUsedThread (place + 1) (slice_index (steps_by_thread part.counted) place) thread old new) part.observed.threads.items place
 
 -- the threads, in the order of their numbers (own)
 abbrev pub SendsThreads : PartStatistics → Log → Log → Type 0
-SendsThreads part = InArray (codes "threads") (WritesEach (SendsThreadAt part.counted) (range_with_len 0 (min (length part.observed.threads.items) THREAD_LIMIT)))
+SendsThreads part = InArray (codes "threads") (WritesEach (SendsThreadAt part) (range_with_len 0 (min (length part.observed.threads.items) THREAD_LIMIT)))
 
 -- ---- a mutex
 
@@ -165,26 +165,26 @@ longest_member key (Some longest) = object_member key (
     ∷ number_member (codes "from") longest.from
     ∷ [])
 
--- some longest time under the key, if there was one (own)
-abbrev pub SendsLongest : List ℕ → Log → Log → Type 0
-SendsLongest key old new = (longest : Option Longest) × SendsAll (longest_member key longest) old new
-
 -- the object of the mutex of this number: for how long it was held and waited for (own)
-abbrev pub SendsMutex : ℕ → Log → Log → Type 0
-SendsMutex number =
+abbrev pub SendsMutex : ℕ → MutexStatistics → Log → Log → Type 0
+SendsMutex number mutex =
     Then (Sends (map_begins None)) (
     Then (SendsAll (number_member (codes "mutex") number)) (
-    Then (SendsLongest (codes "held")) (
-    Then (SendsLongest (codes "waited")) (
+    Then (SendsAll (longest_member (codes "held") mutex.held)) (
+    Then (SendsAll (longest_member (codes "waited") mutex.waited)) (
     Sends map_ends))))
 
+-- the mutex of this number, if somebody had it or waited for it (own)
+abbrev pub SendsUsedMutex : ℕ → MutexStatistics → Log → Log → Type 0
+SendsUsedMutex number mutex = SendsIf (is_mutex_used mutex) (SendsMutex number mutex)
+
 -- the mutex at a place, if somebody had it or waited for it (own)
-abbrev pub SendsMutexAt : ℕ → Log → Log → Type 0
-SendsMutexAt place = MaySend (SendsMutex (place + 1))
+abbrev pub SendsMutexAt : List MutexStatistics → ℕ → Log → Log → Type 0
+SendsMutexAt mutexes place old new = HoldsAt (λ mutex. SendsUsedMutex (place + 1) mutex old new) mutexes place
 
 -- the mutexes, in the order of their numbers (own)
-abbrev pub SendsMutexes : ℕ → Log → Log → Type 0
-SendsMutexes count = InArray (codes "mutexes") (WritesEach SendsMutexAt (range_with_len 0 count))
+abbrev pub SendsMutexes : List MutexStatistics → Log → Log → Type 0
+SendsMutexes mutexes = InArray (codes "mutexes") (WritesEach (SendsMutexAt mutexes) (range_with_len 0 (length mutexes)))
 
 -- ---- a partition
 
@@ -195,7 +195,7 @@ SendsFigures name status part =
     Then (SendsAll (all_members (word_member (codes "name") name ∷ word_member (codes "status") (word_of_outcome status) ∷ []))) (
     Then (SendsCounted part.counted) (
     Then (SendsThreads part) (
-    Then (SendsMutexes (length part.observed.mutexes.items)) (
+    Then (SendsMutexes part.observed.mutexes.items) (
     Sends map_ends)))))
 
 -- the text of such an object (RFC 8259 section 2)

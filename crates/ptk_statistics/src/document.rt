@@ -1,10 +1,10 @@
 //! The JSON object of a partition, written member by member.
 
-ghost use Rattle.std.specs.Prelude.{◌≡◌, IfOk, OnOk, length, string_bytes};
+ghost use Rattle.std.specs.Prelude.{◌≡◌, IfOk, OnOk, string_bytes};
 ghost use Rattle.json.specs.Lex.{tokens};
 ghost use Rattle.json.specs.Print.{print};
 ghost use Rattle.ptk_main_runs.specs.Members.{SendsAll};
-ghost use Rattle.ptk_statistics.specs.Document.{IsObject, MaySend, SendsActivations, SendsCalls, SendsCounted, SendsFigures, SendsMutex, SendsMutexes, SendsThread, SendsThreads, SendsTicks, call_items, longest_member, pair_member};
+ghost use Rattle.ptk_statistics.specs.Document.{IsObject, SendsActivations, SendsCalls, SendsCounted, SendsFigures, SendsMutexes, SendsThreads, SendsTicks, SendsUsedMutex, SendsUsedThread, call_items, longest_member, pair_member};
 
 use crate::part::PartStatistics;
 use crate::words::{KINDS, doing_word, outcome_word};
@@ -94,7 +94,7 @@ fn put_thread<S: Serializer>(
     thread: &ThreadStatistics,
     out: &mut S,
 ) -> Result<(), S::Error>
-    ensures { OnOk result (MaySend (SendsThread t steps) (S.written out.old) (S.written out.new)) }
+    ensures { OnOk result (SendsUsedThread t steps thread.now (S.written out.old) (S.written out.new)) }
 {
     if !thread.is_used() {
         return Ok(());
@@ -105,10 +105,7 @@ fn put_thread<S: Serializer>(
         ("since", Value::Number(thread.since().ticks())),
         ("steps", Value::Number(steps)),
         ("preemptions", Value::Number(thread.preemptions())),
-        (
-            "least_stack",
-            Value::optional(thread.least_stack().map(u64::from)),
-        ),
+        ("least_stack", Value::optional(least_stack_of(thread))),
     ];
     out.begin_map(None)?;
     put_members(&members, out)?;
@@ -117,6 +114,16 @@ fn put_thread<S: Serializer>(
     put_activations(thread.activations(), out)?;
     put_calls(thread, out)?;
     out.end_map()
+}
+
+/// A thread's least stack pointer, None where none was seen.
+fn least_stack_of(thread: &ThreadStatistics) -> Option<u64>
+    ensures { result ≡ thread.now.least_stack }
+{
+    match thread.least_stack() {
+        Some(pointer) => Some(u64::from(pointer)),
+        None => None,
+    }
 }
 
 /// Puts a number of own ticks and of all ticks under a key.
@@ -132,7 +139,7 @@ fn put_span<S: Serializer>(key: &str, span: Span, out: &mut S) -> Result<(), S::
 
 /// Puts for how long a thread did what, each by its word.
 fn put_spans<S: Serializer>(thread: &ThreadStatistics, out: &mut S) -> Result<(), S::Error>
-    ensures { OnOk result (SendsTicks (S.written out.old) (S.written out.new)) }
+    ensures { OnOk result (SendsTicks thread.now (S.written out.old) (S.written out.new)) }
 {
     out.key("ticks")?;
     out.begin_map(None)?;
@@ -144,7 +151,7 @@ fn put_spans<S: Serializer>(thread: &ThreadStatistics, out: &mut S) -> Result<()
 
 /// Puts a thread's activations.
 fn put_activations<S: Serializer>(spread: &Spread, out: &mut S) -> Result<(), S::Error>
-    ensures { OnOk result (SendsActivations (S.written out.old) (S.written out.new)) }
+    ensures { OnOk result (SendsActivations spread.now (S.written out.old) (S.written out.new)) }
 {
     out.key("activations")?;
     out.begin_map(None)?;
@@ -159,7 +166,7 @@ fn put_activations<S: Serializer>(spread: &Spread, out: &mut S) -> Result<(), S:
 
 /// Puts the calls that a thread made.
 fn put_calls<S: Serializer>(thread: &ThreadStatistics, out: &mut S) -> Result<(), S::Error>
-    ensures { OnOk result (SendsCalls (S.written out.old) (S.written out.new)) }
+    ensures { OnOk result (SendsCalls thread.now (S.written out.old) (S.written out.new)) }
 {
     out.key("calls")?;
     out.begin_seq(None)?;
@@ -189,7 +196,7 @@ fn put_call<S: Serializer>(word: &str, count: CallCount, out: &mut S) -> Result<
 
 /// Puts the mutexes that somebody had.
 fn put_mutexes<S: Serializer>(mutexes: &[MutexStatistics], out: &mut S) -> Result<(), S::Error>
-    ensures { OnOk result (SendsMutexes (length mutexes.now) (S.written out.old) (S.written out.new)) }
+    ensures { OnOk result (SendsMutexes mutexes.now (S.written out.old) (S.written out.new)) }
 {
     out.key("mutexes")?;
     out.begin_seq(None)?;
@@ -205,9 +212,9 @@ fn put_mutex<S: Serializer>(
     mutex: &MutexStatistics,
     out: &mut S,
 ) -> Result<(), S::Error>
-    ensures { OnOk result (MaySend (SendsMutex number) (S.written out.old) (S.written out.new)) }
+    ensures { OnOk result (SendsUsedMutex number mutex.now (S.written out.old) (S.written out.new)) }
 {
-    if mutex.held().is_none() && mutex.waited().is_none() {
+    if !mutex.is_used() {
         return Ok(());
     }
     out.begin_map(None)?;

@@ -5,4 +5,4 @@ use Rattle.ptk_statistics.specs.Document.{SendsMutexAt}
 use Rattle.ptk_statistics.proofs.document.put_mutexes.Given as goal
 
 abbrev pub invariant-loop-i : goal.invariant-loop-i
-invariant-loop-i g l = WritesEach SendsMutexAt (take l.i (range_with_len 0 (length l.mutexes))) (g.S.Serializer.written l.initial.out) (g.S.Serializer.written l.out)
+invariant-loop-i g l = WritesEach (SendsMutexAt l.mutexes) (take l.i (range_with_len 0 (length l.mutexes))) (g.S.Serializer.written l.initial.out) (g.S.Serializer.written l.out)

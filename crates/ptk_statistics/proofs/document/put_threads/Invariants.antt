@@ -5,4 +5,4 @@ use Rattle.ptk_statistics.specs.Document.{SendsThreadAt}
 use Rattle.ptk_statistics.proofs.document.put_threads.Given as goal
 
 abbrev pub invariant-loop-i : goal.invariant-loop-i
-invariant-loop-i g l = WritesEach (SendsThreadAt l.part.counted) (take l.i (range_with_len 0 l.count)) (g.S.Serializer.written l.initial.out) (g.S.Serializer.written l.out)
+invariant-loop-i g l = WritesEach (SendsThreadAt l.part) (take l.i (range_with_len 0 l.count)) (g.S.Serializer.written l.initial.out) (g.S.Serializer.written l.out)
