@@ -2,5 +2,6 @@ pub mod Sums
 pub mod Parts
 pub mod Asked
 pub mod Words
+pub mod Observations
 pub mod Document
 pub mod Answered

@@ -1,11 +1,16 @@
 //! The kind of what a thread does, of a system.
 
+ghost use Rattle.std.specs.Prelude.{◌≡◌};
+ghost use Rattle.ptk_statistics.specs.Observations.{doing_of, doing_of_wait, is_timed};
+
 use ptk_main_runs::Activity;
 use ptk_statistics_figures::Doing;
 use ptk_words::Wait;
 
 /// The kind of what a thread does.
-pub(crate) fn doing_of(activity: &Activity) -> Doing {
+pub(crate) fn doing_of(activity: &Activity) -> Doing
+    ensures { result ≡ doing_of activity.now }
+{
     match activity {
         Activity::Free => Doing::Free,
         Activity::Running => Doing::Running,
@@ -17,7 +22,9 @@ pub(crate) fn doing_of(activity: &Activity) -> Doing {
 }
 
 /// The kind of a wait.
-fn doing_of_wait(wait: &Wait) -> Doing {
+fn doing_of_wait(wait: &Wait) -> Doing
+    ensures { result ≡ doing_of_wait wait.now }
+{
     match wait {
         Wait::InputWait => Doing::Input,
         Wait::SleepWait(_) => Doing::Sleep,
@@ -25,5 +32,23 @@ fn doing_of_wait(wait: &Wait) -> Doing {
         Wait::MutexWait(_, _) => Doing::Mutex,
         Wait::ConditionWait(_, _, _) => Doing::Condition,
         Wait::RelockWait(_, _) => Doing::Relock,
+    }
+}
+
+/// Whether a deadline can end what a thread does with an error: a wait for a mutex or on a condition variable.
+pub(crate) fn is_timed(doing: Doing) -> bool
+    ensures { result ≡ is_timed doing }
+{
+    match doing {
+        Doing::Mutex | Doing::Condition => true,
+        Doing::Free
+        | Doing::Running
+        | Doing::Ready
+        | Doing::Input
+        | Doing::Sleep
+        | Doing::Join
+        | Doing::Relock
+        | Doing::Ended
+        | Doing::Halted => false,
     }
 }

@@ -5,19 +5,20 @@
 //!
 //! - `Statistics::of_run` is a run to its tick (`run`), and the counts agree with the system then (`agrees`: `Agrees`):
 //!   its steps, its lost ticks, its own ticks.
-//! - Of the figures of threads and mutexes nothing is proved but that they are safe.
+//! - What a thread does, which step a decision began, and which call that step is are the definitions' (`doing_of`,
+//!   `step_at`, `number_in`). At which moments the figures of threads and mutexes are told of them is tested.
 //! - `stats_with` refuses a partition that no section names, and a run whose system does not boot (`known`, `unknown`,
 //!   `first`, `missing`). Nothing is written before another fault than the writer's, but in JSON where memory runs out
 //!   (`silent`).
 //! - The JSON that it writes is the object of the run, with those of the partitions that are asked for in ascending
 //!   order, and no other (`json`: `PutsRun`). Each has its section's name, its status, its ticks and its steps as they
 //!   were counted, and each thread's number with that thread's steps (`SendsFigures`).
-//! - Of threads, calls and mutexes it has the members of the definition, each under its key, with some numbers. Which
-//!   numbers they are is tested, and so are the tables.
+//! - Of threads, calls and mutexes it has those that there were, each with all members of the definition, which are the
+//!   numbers of its figures (`SendsThread`, `SendsMutex`). The tables are tested.
 //!
 //! The run goes on by single decisions where a call or a change may come, by rows of plain steps between, and over
-//! ticks at which nothing is due at once. What each figure of a thread and of a mutex says is tested, and so are the
-//! bytes (`ptk_main_tests`). Nothing is written before a fault but the writer's own and, where memory runs out while
+//! ticks at which nothing is due at once. What is gathered of threads and mutexes is tested, and so are the bytes
+//! (`ptk_main_tests`). Nothing is written before a fault but the writer's own and, where memory runs out while
 //! JSON is written, what is before it. Below are the count (`ptk_statistics_figures`), the system, and the faults of a
 //! run (`ptk_main_runs`); above is what the program does with a request (`ptk_main_commands`). No clause is costly to
 //! prove.

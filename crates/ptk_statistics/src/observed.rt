@@ -1,9 +1,13 @@
 //! What is seen of a partition's threads and mutexes at its decisions.
 
 ghost use Rattle.std.specs.Prelude.{◌≡◌, ◌<◌, ◌≤◌, length};
-ghost use Rattle.ptk_words.specs.declared.TheConstants.{LAST_TICK};
+ghost use Rattle.ptk_words.specs.Calls.{call_of};
+ghost use Rattle.ptk_words.specs.declared.TheConstants.{LAST_TICK, SP};
+ghost use Rattle.ptk_main_runs.specs.Told.{register_in};
+ghost use Rattle.ptk_main_runs.specs.World.{state_of};
+ghost use Rattle.ptk_statistics.specs.Observations.{comes_by, is_apart, is_late_error, is_owner_call, is_refused, is_reply_error, is_shared, number_in, owner_call, pc_behind, replied, step_at, with_reply, with_stack};
 
-use crate::doing::doing_of;
+use crate::doing::{doing_of, is_timed};
 use ptk_main_runs::{Activity, PartStatus, System};
 use ptk_statistics_figures::{
     Doing, Moment, MutexStatistics, Pending, ThreadStatistics, free_mutexes, free_numbers,
@@ -17,10 +21,10 @@ use std::alloc::{AllocError, Global};
 const MUTEX_LIMIT: usize = 64;
 
 /// Bytes of an instruction.
-const WORD: u32 = 4;
+pub(crate) const WORD: u32 = 4;
 
 /// The word of a step that fetched none.
-const NO_WORD: u32 = 0;
+pub(crate) const NO_WORD: u32 = 0;
 
 /// A call that can give a mutex another owner.
 #[derive(Clone, Copy)]
@@ -339,7 +343,9 @@ fn make_call(
 }
 
 /// The pc behind a step that is a call.
-fn pc_behind(entry: &Entry) -> u32 {
+fn pc_behind(entry: &Entry) -> u32
+    ensures { result ≡ pc_behind entry.now }
+{
     entry.pc.wrapping_add(WORD)
 }
 
@@ -347,6 +353,7 @@ fn pc_behind(entry: &Entry) -> u32 {
 #[inline(always)]
 fn is_refused(system: &System<'_>, p: PartId, entry: &Entry) -> bool
     requires { p < length system.now.config.sections }
+    ensures { result ≡ is_refused entry.now (state_of system.now p).part }
 {
     entry.a0 != 0 && system.pc(p, entry.thread) == Some(pc_behind(entry))
 }
@@ -354,26 +361,47 @@ fn is_refused(system: &System<'_>, p: PartId, entry: &Entry) -> bool
 /// The reply that a woken thread got to the call with which it blocked, if it got one.
 fn take_reply(thread: &mut ThreadStatistics, system: &System<'_>, p: PartId, t: ThreadNo)
     requires { p < length system.now.config.sections }
+    ensures { thread.new ≡ with_reply (is_reply_error t (state_of system.now p).part) thread.old.pending thread.old }
 {
-    let Some(pending) = thread.pending() else {
-        return;
-    };
-    thread.await_reply(None);
-    if system.pc(p, t) == Some(pending.pc) && system.register(p, t, A0).unwrap_or(0) != 0 {
-        thread.refuse(pending.number);
+    if let Some(pending) = thread.pending() {
+        let is_error = is_reply_error(system, p, t, pending.pc);
+        end_call(thread, pending.number, is_error);
     }
+}
+
+/// Whether a thread goes on at this pc, and its reply is an error.
+fn is_reply_error(system: &System<'_>, p: PartId, t: ThreadNo, pc: u32) -> bool
+    requires { p < length system.now.config.sections }
+    ensures { result ≡ is_reply_error t (state_of system.now p).part pc }
+{
+    system.pc(p, t) == Some(pc) && system.register(p, t, A0).unwrap_or(0) != 0
 }
 
 /// The reply to the call with which a thread blocked, where the decision that woke it makes a step of it too: an error
 /// where it waited for a mutex or on a condition variable, since its deadline ended that wait.
-fn take_late_reply(thread: &mut ThreadStatistics, entry: &Entry) {
-    let Some(pending) = thread.pending() else {
-        return;
-    };
+fn take_late_reply(thread: &mut ThreadStatistics, entry: &Entry)
+    ensures { thread.new ≡ with_reply (is_late_error entry.now thread.old.doing) thread.old.pending thread.old }
+{
+    if let Some(pending) = thread.pending() {
+        let is_error = is_late_error(entry, thread.doing(), pending.pc);
+        end_call(thread, pending.number, is_error);
+    }
+}
+
+/// Whether a step is at this pc, and a deadline ended the wait of its thread, which did this.
+fn is_late_error(entry: &Entry, doing: Doing, pc: u32) -> bool
+    ensures { result ≡ is_late_error entry.now doing pc }
+{
+    entry.pc == pc && is_timed(doing)
+}
+
+/// No reply to the call of this number is awaited any more.
+fn end_call(thread: &mut ThreadStatistics, number: u32, is_error: bool)
+    ensures { thread.new ≡ replied number is_error thread.old }
+{
     thread.await_reply(None);
-    let is_timed_out = matches!(thread.doing(), Doing::Mutex | Doing::Condition);
-    if entry.pc == pending.pc && is_timed_out {
-        thread.refuse(pending.number);
+    if is_error {
+        thread.refuse(number);
     }
 }
 
@@ -396,6 +424,7 @@ fn end_wait(
 /// A thread has this stack pointer.
 fn look_at_stack(thread: &mut ThreadStatistics, system: &System<'_>, p: PartId, t: ThreadNo)
     requires { p < length system.now.config.sections }
+    ensures { thread.new ≡ with_stack (register_in t SP (state_of system.now p).part) thread.old }
 {
     if let Some(pointer) = system.register(p, t, SP) {
         thread.see_stack(pointer);
@@ -427,6 +456,7 @@ fn begin(threads: &mut [ThreadStatistics], system: &System<'_>, p: PartId)
 /// The step that began at the tick, if one did.
 fn step_at(system: &System<'_>, p: PartId, tick: u64) -> Option<Entry>
     requires { p < length system.now.config.sections }
+    ensures { result ≡ step_at tick (state_of system.now p).part }
 {
     let entry = system.last_step(p)?;
     if entry.tick.ticks() == tick {
@@ -440,6 +470,7 @@ fn step_at(system: &System<'_>, p: PartId, tick: u64) -> Option<Entry>
 /// pthread_exit.
 fn call_of(system: &System<'_>, p: PartId, entry: &Entry) -> Option<u32>
     requires { p < length system.now.config.sections }
+    ensures { result ≡ number_in entry.now (state_of system.now p).part }
 {
     if entry.word != ECALL {
         return None;
@@ -449,7 +480,9 @@ fn call_of(system: &System<'_>, p: PartId, entry: &Entry) -> Option<u32>
 }
 
 /// Whether a tick, where there is one, is this one or before it.
-fn comes_by(tick: Option<Tick>, now: Tick) -> bool {
+fn comes_by(tick: Option<Tick>, now: Tick) -> bool
+    ensures { result ≡ comes_by now tick }
+{
     match tick {
         Some(tick) => tick.ticks() <= now.ticks(),
         None => false,
@@ -460,32 +493,71 @@ fn comes_by(tick: Option<Tick>, now: Tick) -> bool {
 /// goes on, no call that wakes, makes, ends or frees a thread, and no step of a thread's end.
 fn is_apart(system: &System<'_>, p: PartId, entry: &Entry) -> bool
     requires { p < length system.now.config.sections }
+    ensures { result ≡ is_apart entry.now (state_of system.now p).part }
 {
-    let goes_on = matches!(system.status(p), PartStatus::Idle | PartStatus::Running);
-    let Some(number) = call_of(system, p, entry) else {
-        return goes_on && entry.word != NO_WORD;
-    };
-    goes_on
-        && !matches!(
-            Call::of_number(number),
-            Some(
-                Call::Exit
-                    | Call::PthreadCreate
-                    | Call::PthreadExit
-                    | Call::PthreadJoin
-                    | Call::PthreadDetach
-                    | Call::PthreadCancel
-                    | Call::MutexUnlock
-                    | Call::CondWait
-                    | Call::CondTimedwait
-                    | Call::CondSignal
-                    | Call::CondBroadcast
-            )
-        )
+    if system.status(p).is_halted() {
+        return false;
+    }
+    match call_of(system, p, entry) {
+        Some(number) => !is_shared(Call::of_number(number)),
+        None => entry.word != NO_WORD,
+    }
+}
+
+/// Whether a call wakes, makes, ends or frees a thread, or halts the partition.
+fn is_shared(call: Option<Call>) -> bool
+    ensures { result ≡ is_shared call }
+{
+    match call {
+        Some(
+            Call::Exit
+            | Call::PthreadCreate
+            | Call::PthreadExit
+            | Call::PthreadJoin
+            | Call::PthreadDetach
+            | Call::PthreadCancel
+            | Call::MutexUnlock
+            | Call::CondWait
+            | Call::CondTimedwait
+            | Call::CondSignal
+            | Call::CondBroadcast,
+        ) => true,
+        None
+        | Some(
+            Call::ConsolePut
+            | Call::ConsoleGet
+            | Call::ClockGettime
+            | Call::ClockNanosleep
+            | Call::PthreadSelf
+            | Call::SchedYield
+            | Call::PthreadSetschedparam
+            | Call::PthreadGetschedparam
+            | Call::PthreadSetschedprio
+            | Call::MutexInit
+            | Call::MutexDestroy
+            | Call::MutexLock
+            | Call::MutexTrylock
+            | Call::MutexTimedlock
+            | Call::MutexConsistent
+            | Call::CondInit
+            | Call::CondDestroy
+            | Call::PthreadSetcancelstate
+            | Call::PthreadSetcanceltype
+            | Call::PthreadTestcancel
+            | Call::CleanupPush
+            | Call::CleanupPop
+            | Call::KeyCreate
+            | Call::KeyDelete
+            | Call::PthreadSetspecific
+            | Call::PthreadGetspecific,
+        ) => false,
+    }
 }
 
 /// The call of this number that a step is, where it can give a mutex another owner.
-fn owner_call(entry: &Entry, number: u32) -> Option<OwnerCall> {
+fn owner_call(entry: &Entry, number: u32) -> Option<OwnerCall>
+    ensures { result ≡ owner_call number entry.now }
+{
     if changes_an_owner(number) {
         Some(OwnerCall {
             tick: entry.tick.ticks(),
@@ -497,18 +569,53 @@ fn owner_call(entry: &Entry, number: u32) -> Option<OwnerCall> {
 }
 
 /// Whether a call of this number can give a mutex another owner while its caller goes on.
-fn changes_an_owner(number: u32) -> bool {
-    matches!(
-        Call::of_number(number),
+fn changes_an_owner(number: u32) -> bool
+    ensures { result ≡ is_owner_call (call_of number) }
+{
+    match Call::of_number(number) {
         Some(
             Call::MutexInit
-                | Call::MutexDestroy
-                | Call::MutexLock
-                | Call::MutexTrylock
-                | Call::MutexTimedlock
-                | Call::MutexUnlock
-        )
-    )
+            | Call::MutexDestroy
+            | Call::MutexLock
+            | Call::MutexTrylock
+            | Call::MutexTimedlock
+            | Call::MutexUnlock,
+        ) => true,
+        None
+        | Some(
+            Call::Exit
+            | Call::ConsolePut
+            | Call::ConsoleGet
+            | Call::ClockGettime
+            | Call::ClockNanosleep
+            | Call::PthreadCreate
+            | Call::PthreadExit
+            | Call::PthreadJoin
+            | Call::PthreadDetach
+            | Call::PthreadSelf
+            | Call::SchedYield
+            | Call::PthreadSetschedparam
+            | Call::PthreadGetschedparam
+            | Call::PthreadSetschedprio
+            | Call::MutexConsistent
+            | Call::CondInit
+            | Call::CondDestroy
+            | Call::CondWait
+            | Call::CondTimedwait
+            | Call::CondSignal
+            | Call::CondBroadcast
+            | Call::PthreadCancel
+            | Call::PthreadSetcancelstate
+            | Call::PthreadSetcanceltype
+            | Call::PthreadTestcancel
+            | Call::CleanupPush
+            | Call::CleanupPop
+            | Call::KeyCreate
+            | Call::KeyDelete
+            | Call::PthreadSetspecific
+            | Call::PthreadGetspecific,
+        ) => false,
+    }
 }
 
 /// How many ticks before `to` the partition's step takes that began at the tick: up to its next decision or the end of
