@@ -1,5 +1,11 @@
 //! The files that the program reads.
 
+ghost use Rattle.std.specs.Prelude.{◌≡◌, ◌≢◌, ℕ, List, [], None, Some, Ok, IfErr, IfOk, string_bytes};
+ghost use Rattle.ptk_image.specs.NamedFiles.{content_of};
+ghost use Rattle.ptk_symbols.specs.Tables.{table_of};
+ghost use Rattle.ptk_config.specs.Configuration.{configuration_in};
+ghost use Rattle.ptk_main_tools.specs.Reading.{AreImagesOf, IsConfigFault, IsConfigFileFault, IsImageFault, IsImagesFault, IsNamedTextFault, IsReadFault, IsSymbolsFault, IsTextFault, IsUnreadFault, read_fault};
+
 use ptk_config::{Config, Section, read_config};
 use ptk_image::Files;
 use ptk_main_faults::Fault;
@@ -8,33 +14,61 @@ use std::{fs, io};
 
 /// The bytes of a file. A fault where it is not there, can't be read, or memory ran out. A path through a file is one
 /// of a file that is not there (own choice).
-pub fn bytes_in<'a>(rt: &HostRuntime, name: &'a str) -> Result<Vec<u8>, Fault<'a>> {
-    fs::read(rt, name).map_err(|error| match error.kind() {
+pub fn bytes_in<'a>(rt: &HostRuntime, name: &'a str) -> Result<Vec<u8>, Fault<'a>>
+    ensures { IfErr result (IsReadFault name.entry) }
+{
+    match fs::read(rt, name) {
+        Ok(bytes) => Ok(bytes),
+        Err(error) => Err(read_fault(name, error.kind())),
+    }
+}
+
+// The fault of a file of this name that the host does not read, by the kind of its error.
+fn read_fault<'a>(name: &'a str, kind: io::ErrorKind) -> Fault<'a>
+    ensures { result ≡ read_fault name.entry kind }
+{
+    match kind {
         io::ErrorKind::NotFound | io::ErrorKind::NotADirectory => Fault::MissingFile(name),
         io::ErrorKind::OutOfMemory => Fault::NoMemory,
         _ => Fault::ReadFailed(name),
-    })
+    }
 }
 
 /// The text of a file. A fault where the file can't be read, or is no text.
-pub fn text_in<'a>(rt: &HostRuntime, name: &'a str) -> Result<String, Fault<'a>> {
+pub fn text_in<'a>(rt: &HostRuntime, name: &'a str) -> Result<String, Fault<'a>>
+    ensures { IfErr result (IsTextFault name.entry) }
+{
     let bytes = bytes_in(rt, name)?;
-    String::from_utf8(bytes).map_err(|_| Fault::NotText(name))
+    match String::from_utf8(bytes) {
+        Ok(text) => Ok(text),
+        Err(_) => Err(Fault::NotText(name)),
+    }
 }
 
 /// The configuration in a file. A fault where the file can't be read, is no text, or states no configuration.
-pub fn config_in<'a>(rt: &HostRuntime, name: &'a str) -> Result<Config, Fault<'a>> {
+pub fn config_in<'a>(rt: &HostRuntime, name: &'a str) -> Result<Config, Fault<'a>>
+    ensures { IfErr result (IsConfigFileFault name.entry) }
+{
     let text = text_in(rt, name)?;
     config_of(rt, text.as_str())
 }
 
 /// The configuration that a text states. A fault where it states none.
-pub fn config_of(rt: &HostRuntime, text: &str) -> Result<Config, Fault<'static>> {
-    read_config(rt.alloc(), text).map_err(|fault| Fault::of_config(fault))
+pub fn config_of(rt: &HostRuntime, text: &str) -> Result<Config, Fault<'static>>
+    ensures stated { IfOk result (λ config. configuration_in text.now ≡ Ok config) }
+    ensures refused { IfErr result (IsConfigFault text.now) }
+{
+    match read_config(rt.alloc(), text) {
+        Ok(config) => Ok(config),
+        Err(fault) => Err(Fault::of_config(fault)),
+    }
 }
 
 /// The text of a file of symbols, the empty one where no file is named.
-pub fn symbols_text_in<'a>(rt: &HostRuntime, name: Option<&'a str>) -> Result<String, Fault<'a>> {
+pub fn symbols_text_in<'a>(rt: &HostRuntime, name: Option<&'a str>) -> Result<String, Fault<'a>>
+    ensures none { IfOk result (λ text. name.entry ≡ None → string_bytes text ≡ []) }
+    ensures unread { IfErr result (IsNamedTextFault name.entry) }
+{
     match name {
         Some(name) => text_in(rt, name),
         None => Ok(String::new(rt.alloc())),
@@ -46,11 +80,15 @@ pub fn symbols_of<'a, 't>(
     rt: &HostRuntime,
     name: Option<&'a str>,
     text: &'t str,
-) -> Result<Symbols<'t>, Fault<'a>> {
-    read_symbols(rt.alloc(), text).map_err(|fault| match fault {
-        SymbolFault::Line(number) => Fault::Symbols(name.unwrap_or(""), number as u64),
-        SymbolFault::Memory => Fault::NoMemory,
-    })
+) -> Result<Symbols<'t>, Fault<'a>>
+    ensures table { IfOk result (λ symbols. table_of text.now ≡ Ok symbols) }
+    ensures refused { IfErr result (IsSymbolsFault name.entry text.now) }
+{
+    match read_symbols(rt.alloc(), text) {
+        Ok(symbols) => Ok(symbols),
+        Err(SymbolFault::Line(number)) => { Err(Fault::Symbols(name.unwrap_or(""), number as u64)) }
+        Err(SymbolFault::Memory) => Err(Fault::NoMemory),
+    }
 }
 
 /// The images that the sections name, in their order, each looked up by its name behind the folder `root` and a slash,
@@ -60,9 +98,13 @@ pub fn images_of<'a>(
     rt: &HostRuntime,
     config: &'a Config,
     root: Option<&str>,
-) -> Result<Files, Fault<'a>> {
+) -> Result<Files, Fault<'a>>
+    ensures named { IfOk result (AreImagesOf config.now.sections) }
+    ensures unread { IfErr result (IsImagesFault config.now.sections) }
+{
     let mut files = Files::new(rt.alloc());
-    for section in config.sections() {
+    let sections = config.sections();
+    for section in sections {
         add_image_of(rt, &mut files, section, root)?;
     }
     Ok(files)
@@ -74,28 +116,14 @@ fn add_image_of<'a>(
     files: &mut Files,
     section: &'a Section,
     root: Option<&str>,
-) -> Result<(), Fault<'a>> {
+) -> Result<(), Fault<'a>>
+    ensures others { (other : List ℕ) → section.now.image ≢ Some other → content_of files.new other ≡ content_of files.old other }
+    ensures unread { IfErr result (IsImageFault section.now.image) }
+{
     match section.image() {
         Some(name) => add_image(rt, files, name, root),
         None => Ok(()),
     }
-}
-
-// The bytes of the image of this name.
-fn image_bytes<'a>(
-    rt: &HostRuntime,
-    name: &'a str,
-    root: Option<&str>,
-) -> Result<Vec<u8>, Fault<'a>> {
-    let Some(root) = root else {
-        return bytes_in(rt, name);
-    };
-    let path = format!(in rt.alloc(); "{root}/{name}").map_err(|_| Fault::NoMemory)?;
-    bytes_in(rt, path.as_str()).map_err(|fault| match fault {
-        Fault::MissingFile(_) => Fault::MissingFile(name),
-        Fault::NoMemory => Fault::NoMemory,
-        _ => Fault::ReadFailed(name),
-    })
 }
 
 // Adds the file of this name, where it is there.
@@ -104,10 +132,40 @@ fn add_image<'a>(
     files: &mut Files,
     name: &'a str,
     root: Option<&str>,
-) -> Result<(), Fault<'a>> {
+) -> Result<(), Fault<'a>>
+    ensures others { (other : List ℕ) → name.now ≢ other → content_of files.new other ≡ content_of files.old other }
+    ensures unread { IfErr result (IsUnreadFault name.entry) }
+{
     match image_bytes(rt, name, root) {
-        Ok(bytes) => Ok(files.add(name, &bytes)?),
-        Err(Fault::MissingFile(_)) => Ok(()),
+        Ok(Some(bytes)) => Ok(files.add(name, &bytes)?),
+        Ok(None) => Ok(()),
         Err(fault) => Err(fault),
+    }
+}
+
+// The bytes of the image of this name, None where it is not there.
+fn image_bytes<'a>(
+    rt: &HostRuntime,
+    name: &'a str,
+    root: Option<&str>,
+) -> Result<Option<Vec<u8>>, Fault<'a>>
+    ensures { IfErr result (IsUnreadFault name.entry) }
+{
+    let Some(root) = root else {
+        return bytes_at(rt, name, name);
+    };
+    let path = format!(in rt.alloc(); "{root}/{name}")?;
+    bytes_at(rt, name, path.as_str())
+}
+
+// The bytes of the image of this name, whose file has this path, None where it is not there.
+fn bytes_at<'a>(rt: &HostRuntime, name: &'a str, path: &str) -> Result<Option<Vec<u8>>, Fault<'a>>
+    ensures { IfErr result (IsUnreadFault name.entry) }
+{
+    match bytes_in(rt, path) {
+        Ok(bytes) => Ok(Some(bytes)),
+        Err(Fault::MissingFile(_)) => Ok(None),
+        Err(Fault::NoMemory) => Err(Fault::NoMemory),
+        Err(_) => Err(Fault::ReadFailed(name)),
     }
 }

@@ -1,0 +1,76 @@
+-- Why a file is not read, and which images of a configuration are.
+use Rattle.std.specs.Prelude.{◌≡◌, ◌⊎◌, ℕ, List, [], Option, Some, None, Err, Any, option_copied, unwrap_or}
+use Rattle.std.specs.Borrow.{Bor}
+use Rattle.std.specs.declared.io.ErrorKind.{ErrorKind}
+use Rattle.std.specs.declared.io.ErrorKind.TheVariants as kind
+use Rattle.ptk_image.specs.NamedFiles.{NamedFile, content_of}
+use Rattle.ptk_symbols.specs.Tables.{table_of}
+use Rattle.ptk_config.specs.declared.fault.ConfigFault.{ConfigFault}
+use Rattle.ptk_config.specs.Configuration.{configuration_in}
+use Rattle.ptk_config.specs.Sections.{Section}
+use Rattle.ptk_main_faults.specs.Lines.{config_fault}
+use Rattle.ptk_main_faults.specs.Told.{text, told}
+use Rattle.ptk_main_faults.specs.declared.fault.Fault.{Fault}
+use Rattle.ptk_main_faults.specs.declared.fault.Fault.TheVariants.{MissingFile, NotText, Symbols, ReadFailed, NoMemory}
+
+-- ---- a file
+
+-- the fault of a file of this name that the host does not read; a path through a file is one of a file that is not there (own)
+abbrev pub read_fault : Bor (List ℕ) → ErrorKind → Fault
+read_fault name kind.NotFound = MissingFile name
+read_fault name kind.NotADirectory = MissingFile name
+read_fault name kind.OutOfMemory = NoMemory
+read_fault name error = ReadFailed name
+
+-- the file of this name can't be read, or memory ran out (own)
+abbrev pub IsUnreadFault : Bor (List ℕ) → Fault → Type 0
+IsUnreadFault name fault = (fault ≡ ReadFailed name) ⊎ (fault ≡ NoMemory)
+
+-- the file of this name is not there, or not read (own)
+abbrev pub IsReadFault : Bor (List ℕ) → Fault → Type 0
+IsReadFault name fault = (fault ≡ MissingFile name) ⊎ IsUnreadFault name fault
+
+-- the file of this name is no text, or not read (own)
+abbrev pub IsTextFault : Bor (List ℕ) → Fault → Type 0
+IsTextFault name fault = (fault ≡ NotText name) ⊎ IsReadFault name fault
+
+-- a file is named, and it is no text, or not read (own)
+abbrev pub IsNamedTextFault : Option (Bor (List ℕ)) → Fault → Type 0
+IsNamedTextFault None fault = ⊥
+IsNamedTextFault (Some name) fault = IsTextFault name fault
+
+-- ---- what a text states
+
+-- memory ran out, or it is the first fault of a text that states no configuration (own)
+abbrev pub IsConfigFault : List ℕ → Fault → Type 0
+IsConfigFault bytes fault = (fault ≡ NoMemory) ⊎ ((refusal : ConfigFault) × (configuration_in bytes ≡ Err refusal) × (fault ≡ config_fault refusal))
+
+-- the text of the file of this name is not read, or states no configuration (own)
+abbrev pub IsConfigFileFault : Bor (List ℕ) → Fault → Type 0
+IsConfigFileFault name fault = IsTextFault name fault ⊎ ((bytes : List ℕ) × IsConfigFault bytes fault)
+
+-- memory ran out, or it is the first line of a text that is no symbol, by the name of the file, where one is named (own)
+abbrev pub IsSymbolsFault : Option (Bor (List ℕ)) → List ℕ → Fault → Type 0
+IsSymbolsFault name bytes fault = (fault ≡ NoMemory) ⊎ ((line : ℕ) × (table_of bytes ≡ Err line) × (told fault ≡ Symbols (text (unwrap_or (option_copied name) [])) line))
+
+-- a file of symbols is named, and its text is not read, or a line of a text is no symbol, or memory ran out (own)
+abbrev pub IsSymbolsFileFault : Option (Bor (List ℕ)) → Fault → Type 0
+IsSymbolsFileFault name fault = IsNamedTextFault name fault ⊎ ((bytes : List ℕ) × IsSymbolsFault name bytes fault)
+
+-- ---- the images of sections
+
+-- memory ran out, or the image is there and can't be read (own)
+abbrev pub IsImageFault : Option (List ℕ) → Fault → Type 0
+IsImageFault image fault = (fault ≡ NoMemory) ⊎ ((name : List ℕ) × (image ≡ Some name) × (told fault ≡ ReadFailed (text name)))
+
+-- so it is with the image of one of these sections (own)
+abbrev pub IsImagesFault : List Section → Fault → Type 0
+IsImagesFault sections fault = Any (λ (s : Section). IsImageFault s.image fault) sections
+
+-- one of these sections names this image (own)
+abbrev pub IsImageOf : List Section → List ℕ → Type 0
+IsImageOf sections name = Any (λ (s : Section). s.image ≡ Some name) sections
+
+-- the files are images of these sections and nothing else (own)
+abbrev pub AreImagesOf : List Section → List NamedFile → Type 0
+AreImagesOf sections files = (name : List ℕ) → ¬ IsImageOf sections name → content_of files name ≡ None
