@@ -1,2 +1,5 @@
 pub mod Refusals
+pub mod Statuses
 pub mod ReadFaults
+pub mod SourceFaults
+pub mod Columns

@@ -1,2 +1,5 @@
 pub mod Refusals
 pub mod Reading
+pub mod Sources
+pub mod Usage
+pub use Rattle.ptk_image.specs.NamedFiles

@@ -1,16 +1,22 @@
 -- Why a file has no disassembly.
 use Rattle.std.specs.Prelude.{◌≡◌, ℕ, List, Result, Ok, Err, ◌⊎◌}
 use Rattle.std.specs.Borrow.{Bor}
-use Rattle.ptk_words.specs.Image.{ImageParts}
+use Rattle.ptk_words.specs.Image.{ImageParts, image_of}
 use Rattle.ptk_words.specs.declared.faults.ImageFault.{ImageFault}
 use Rattle.ptk_asm_language.specs.declared.statement.Section.{Section}
 use Rattle.ptk_disasm.specs.Writing.{IsRefused}
 use Rattle.ptk_disasm.specs.declared.fault.DisasmFault.TheVariants as disasm
+use Rattle.ptk_main_line.specs.declared.requests.DisasmOptions.{DisasmOptions}
 use Rattle.ptk_main_faults.specs.Lines.{image_fault}
 use Rattle.ptk_main_faults.specs.declared.fault.Fault.{Fault}
-use Rattle.ptk_main_faults.specs.declared.fault.Fault.TheVariants.{TooLong, NoMemory}
+use Rattle.ptk_main_faults.specs.declared.fault.Fault.TheVariants.{TooLong, WriteFailed, NoMemory}
+use Rattle.ptk_main_tools.specs.Reading.{IsReadFault, IsSymbolsFileFault}
 
 -- the fault of a file of this name with this outcome of its bytes: of what is no image its refusal; of an image that a section is longer than a source may have it, or that memory ran out (own)
 abbrev pub HasNoSource : Bor (List ℕ) → Result ImageParts ImageFault → Fault → Type 0
 HasNoSource name (Err refusal) fault = fault ≡ image_fault name refusal
 HasNoSource name (Ok image) fault = (fault ≡ NoMemory) ⊎ ((section : Section) × IsRefused image (disasm.TooLong section) × (fault ≡ TooLong name section))
+
+-- the text can't be written; the image or the symbols are not read; or there are bytes for which it is the fault of what has no source (own)
+abbrev pub IsDisasmFault : DisasmOptions → Fault → Type 0
+IsDisasmFault options fault = (fault ≡ WriteFailed) ⊎ (IsReadFault options.image fault ⊎ (IsSymbolsFileFault options.symbols fault ⊎ ((bytes : List ℕ) × HasNoSource options.image (image_of bytes) fault)))

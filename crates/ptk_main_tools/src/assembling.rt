@@ -1,5 +1,15 @@
 //! `asm`: the image of a source.
 
+ghost use Rattle.std.specs.Prelude.{◌≡◌, ◌+◌, ◌<◌, ◌==◌, if◌then◌else◌, IfErr, IsErr, IsOk, IsTrue, OnOk};
+ghost use Rattle.std.specs.List.{list_all};
+ghost use Rattle.std.specs.Io.KnownBytes.{Appends};
+ghost use Rattle.ptk_asm_language.specs.Source as definition;
+ghost use Rattle.ptk_main_faults.specs.Lines.{status_of};
+ghost use Rattle.ptk_main_faults.specs.Statuses.{status_number};
+ghost use Rattle.ptk_main_faults.specs.declared.status.ExitStatus.TheVariants.{Done, Refused};
+ghost use Rattle.ptk_main_tools.specs.Sources.{AreMixed, IsAsmFault, IsWriteFault, column_of, is_printable, is_shown, piece_of, piece_text, source_fault, spot_text};
+ghost use Rattle.ptk_main_tools.specs.Usage.{IsUsageStatus};
+
 use crate::reading::text_in;
 use crate::telling::{end, tell, usage};
 use ptk_asm::{AsmFault, assemble, label_table};
@@ -15,12 +25,11 @@ const MOST_SHOWN: usize = 32;
 /// Writes the image of a source into a file, and on request its labels into another, and gives the number of the
 /// status. Nothing is written where the source is refused, or two of the files are one. The labels are written first:
 /// where the image can't be written then, the labels stand.
-pub fn asm(rt: &HostRuntime, options: AsmOptions<'_>) -> u8 {
+pub fn asm(rt: &HostRuntime, options: AsmOptions<'_>) -> u8
+    ensures { AreMixed options.entry → IsUsageStatus result }
+{
     if are_mixed(rt, options) {
-        return match one_file(rt.alloc()) {
-            Ok(error) => usage(rt, &error),
-            Err(_) => tell(rt, &Fault::NoMemory),
-        };
+        return refuse_mixed(rt);
     }
     match text_in(rt, options.source) {
         Ok(text) => asm_text(rt, text.as_str(), options),
@@ -28,8 +37,20 @@ pub fn asm(rt: &HostRuntime, options: AsmOptions<'_>) -> u8 {
     }
 }
 
+// The status of a command line of which two files are one.
+fn refuse_mixed(rt: &HostRuntime) -> u8
+    ensures { IsUsageStatus result }
+{
+    match one_file(rt.alloc()) {
+        Ok(error) => usage(rt, &error),
+        Err(_) => tell(rt, &Fault::NoMemory),
+    }
+}
+
 // Whether two of the files are one.
-fn are_mixed(rt: &HostRuntime, options: AsmOptions<'_>) -> bool {
+fn are_mixed(rt: &HostRuntime, options: AsmOptions<'_>) -> bool
+    ensures { AreMixed options.entry → IsTrue result }
+{
     let (source, image) = (options.source, options.image);
     match options.symbols {
         Some(labels) => {
@@ -43,7 +64,9 @@ fn are_mixed(rt: &HostRuntime, options: AsmOptions<'_>) -> bool {
 
 // Whether two paths are one file: their words are the same, or both are there and lead to one path. Two hard links to
 // one file are not seen.
-fn is_one_file(rt: &HostRuntime, source: &str, image: &str) -> bool {
+fn is_one_file(rt: &HostRuntime, source: &str, image: &str) -> bool
+    ensures { source.now ≡ image.now → IsTrue result }
+{
     if source == image {
         return true;
     }
@@ -54,7 +77,10 @@ fn is_one_file(rt: &HostRuntime, source: &str, image: &str) -> bool {
 }
 
 // Writes the image of a text, and its labels.
-fn asm_text(rt: &HostRuntime, text: &str, options: AsmOptions<'_>) -> u8 {
+fn asm_text(rt: &HostRuntime, text: &str, options: AsmOptions<'_>) -> u8
+    ensures done { result ≡ status_number Done → IsOk (definition.source text.now) }
+    ensures refused { result ≡ status_number Refused → IsErr (definition.source text.now) }
+{
     match assemble(rt.alloc(), text) {
         Ok(image) => end(rt, put_files(rt, text, &image, options)),
         Err(fault) => refused(rt, text, options.explain, &fault),
@@ -67,7 +93,9 @@ fn put_files(
     text: &str,
     image: &Image,
     options: AsmOptions<'_>,
-) -> Result<(), Fault<'static>> {
+) -> Result<(), Fault<'static>>
+    ensures { IfErr result (IsAsmFault text.now) }
+{
     if let Some(target) = options.symbols {
         put_labels(rt, text, target)?;
     }
@@ -75,24 +103,44 @@ fn put_files(
 }
 
 // Writes the labels of a text into a file.
-fn put_labels(rt: &HostRuntime, text: &str, target: &str) -> Result<(), Fault<'static>> {
-    let table = label_table(rt.alloc(), text).map_err(|fault| fault_of(&fault))?;
-    fs::write(rt, target, table.as_bytes()).map_err(|_| Fault::WriteFailed)
+fn put_labels(rt: &HostRuntime, text: &str, target: &str) -> Result<(), Fault<'static>>
+    ensures { IfErr result (IsAsmFault text.now) }
+{
+    match label_table(rt.alloc(), text) {
+        Ok(table) => put_bytes(rt, table.as_bytes(), target),
+        Err(fault) => Err(fault_of(&fault)),
+    }
 }
 
 // Writes an image into a file.
-fn put_image(rt: &HostRuntime, image: &Image, target: &str) -> Result<(), Fault<'static>> {
+fn put_image(rt: &HostRuntime, image: &Image, target: &str) -> Result<(), Fault<'static>>
+    ensures { IfErr result IsWriteFault }
+{
     let bytes = write_image(rt.alloc(), image)?;
-    fs::write(rt, target, bytes.as_slice()).map_err(|_| Fault::WriteFailed)
+    put_bytes(rt, bytes.as_slice(), target)
+}
+
+// Writes bytes into a file.
+pub(crate) fn put_bytes(rt: &HostRuntime, bytes: &[u8], target: &str) -> Result<(), Fault<'static>>
+    ensures { IfErr result (λ fault. fault ≡ Fault.WriteFailed) }
+{
+    match fs::write(rt, target, bytes) {
+        Ok(()) => Ok(()),
+        Err(_) => Err(Fault::WriteFailed),
+    }
 }
 
 // The fault of a refused source.
-fn fault_of(fault: &AsmFault) -> Fault<'static> {
+fn fault_of(fault: &AsmFault) -> Fault<'static>
+    ensures { result ≡ source_fault fault.now }
+{
     Fault::of_asm(fault.line as u64, fault.kind.number())
 }
 
 // The status of a refused source, whose line goes to standard error, and behind it on request where and why.
-fn refused(rt: &HostRuntime, text: &str, explain: bool, fault: &AsmFault) -> u8 {
+fn refused(rt: &HostRuntime, text: &str, explain: bool, fault: &AsmFault) -> u8
+    ensures { result ≡ status_number (status_of (source_fault fault.now)) }
+{
     let line = fault_of(fault);
     let status = tell(rt, &line);
     if explain && line != Fault::NoMemory {
@@ -104,34 +152,79 @@ fn refused(rt: &HostRuntime, text: &str, explain: bool, fault: &AsmFault) -> u8 
 /// Writes where a source is refused, the column counted in bytes from 1, what is there, and why. An error where
 /// `out` refuses the bytes.
 pub fn put_place<W: Write>(source: &[u8], fault: &AsmFault, out: &mut W) -> io::Result<()> {
-    let (line, kind) = (fault.line, fault.kind);
-    let column = column_of(source, fault.from);
-    write!(out, "line {line}, column {column}: ")?;
-    if let Some(piece) = source.get(fault.from..fault.to) {
-        if is_shown(piece) {
-            out.write_all(piece)?;
-            out.write_all(b": ")?;
-        }
-    }
+    put_spot(source, fault, out)?;
+    let kind = fault.kind;
     writeln!(out, "{kind}")
 }
 
+// Writes where a source is refused, and what is there. An error where `out` refuses the bytes.
+fn put_spot<W: Write>(source: &[u8], fault: &AsmFault, out: &mut W) -> io::Result<()>
+    ensures { OnOk result (Appends (W.contents out.old) (W.contents out.new) (spot_text source.now fault.now)) }
+{
+    let (line, column) = (fault.line, column_of(source, fault.from));
+    write!(out, "line {line}, column {column}: ")?;
+    put_piece(piece_of(source, fault.from, fault.to), out)
+}
+
+// Writes a piece of a source, where it is shown. An error where `out` refuses the bytes.
+fn put_piece<W: Write>(piece: &[u8], out: &mut W) -> io::Result<()>
+    ensures { OnOk result (Appends (W.contents out.old) (W.contents out.new) (piece_text piece.now)) }
+{
+    if !is_shown(piece) {
+        return Ok(());
+    }
+    out.write_all(piece)?;
+    out.write_all(b": ")
+}
+
+// The bytes of a source from one to another, none where it has not these.
+fn piece_of(source: &[u8], from: usize, to: usize) -> &[u8]
+    ensures { result.now ≡ piece_of source.now from to }
+{
+    match source.get(from..to) {
+        Some(piece) => piece,
+        None => &[],
+    }
+}
+
 // The column of a byte, counted in bytes from 1.
-fn column_of(source: &[u8], at: usize) -> usize {
+fn column_of(source: &[u8], at: usize) -> usize
+    ensures { result ≡ column_of source.now at }
+{
+    let before = &source[..at.min(source.len())];
     let mut column: usize = 1;
-    for byte in source.iter().take(at) {
-        column = if *byte == b'\n' {
-            1
-        } else {
-            column.saturating_add(1)
-        };
+    for byte in before {
+        column = column_behind(column, *byte);
     }
     column
 }
 
+// The column of the byte behind this one, which is in this column.
+fn column_behind(column: usize, byte: u8) -> usize
+    requires { column < usize.MAX }
+    ensures { result ≡ (if byte == 10 then 1 else column + 1) }
+{
+    if byte == b'\n' { 1 } else { column + 1 }
+}
+
 // Whether a piece of a source is short and of printable ASCII.
-fn is_shown(piece: &[u8]) -> bool {
-    !piece.is_empty()
-        && piece.len() <= MOST_SHOWN
-        && piece.iter().all(|b| (b' '..=b'~').contains(b))
+fn is_shown(piece: &[u8]) -> bool
+    ensures { result ≡ is_shown piece.now }
+{
+    let length = piece.len();
+    0 < length && length <= MOST_SHOWN && are_printable(piece)
+}
+
+// Whether bytes are printable ASCII alone.
+fn are_printable(bytes: &[u8]) -> bool
+    ensures { result ≡ list_all is_printable bytes.now }
+{
+    bytes.iter().all(|byte| is_printable(*byte))
+}
+
+// Whether a byte is printable ASCII.
+fn is_printable(byte: u8) -> bool
+    ensures { result ≡ is_printable byte }
+{
+    matches!(byte, b' '..=b'~')
 }

@@ -3,7 +3,13 @@
 //! What the program `ptk` does over real files and its own streams where no run is asked for: the reading of files,
 //! what it says of an outcome, `asm` and `disasm`.
 //!
-//! - The status of each outcome (`end`, `tell`).
+//! - The status of each outcome (`end`, `tell`), and of a command line that asks for nothing (`usage`, `unread`).
+//! - A file that is not read has the fault of the host's error, by this file's name (`bytes_in`, `text_in`).
+//! - `config_of` and `symbols_of` return what the text states, or the fault of its first refusal.
+//! - The files of `images_of` are images of the sections and nothing else; its fault names one that is there.
+//! - `asm` is a usage error where two of its files have the same words. A source is done only where the definition has
+//!   its image, and refused only where it has its fault (`asm_text`).
+//! - The line, the column and the piece of a source that `put_place` writes are the definition's (`put_spot`).
 //! - The text of a disassembly is a source of the image that the file's bytes are, and of bytes that are no image the
 //!   fault is that of the format (`text_of`).
 //! - Which files it reads is tested; which stream gets what is neither proved nor tested.

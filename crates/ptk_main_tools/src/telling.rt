@@ -1,9 +1,12 @@
 //! What the program says of an outcome, and the number of the status that it ends with.
 
-ghost use Rattle.std.specs.Prelude.{◌≡◌, IfErr, OnOk};
+ghost use Rattle.std.specs.Prelude.{◌≡◌, ◌≢◌, ◌⊎◌, IfErr, OnOk};
+ghost use Rattle.std.specs.declared.io.ErrorKind.TheVariants as host;
+ghost use Rattle.clap.specs.Values.{kind_of};
 ghost use Rattle.ptk_main_faults.specs.Lines.{status_of};
 ghost use Rattle.ptk_main_faults.specs.Statuses.{status_number};
-ghost use Rattle.ptk_main_faults.specs.declared.status.ExitStatus.TheVariants.{Done};
+ghost use Rattle.ptk_main_faults.specs.declared.status.ExitStatus.TheVariants.{Done, HostFailure, Usage};
+ghost use Rattle.ptk_main_tools.specs.Usage.{IsUsageStatus};
 
 use clap::error::ErrorKind;
 use ptk_main_faults::{ExitStatus, Fault, fault_line};
@@ -34,10 +37,25 @@ pub fn tell(rt: &HostRuntime, fault: &Fault<'_>) -> u8
 /// The status of words that `clap` does not take, with its text. Where the text belongs on standard error and that
 /// can't be written, there is the status alone. A request for help is done, on standard output, where that can be
 /// written.
-pub fn usage(rt: &HostRuntime, error: &clap::Error) -> u8 {
-    if error.kind() == ErrorKind::OutOfMemory {
-        return tell(rt, &Fault::NoMemory);
+pub fn usage(rt: &HostRuntime, error: &clap::Error) -> u8
+    ensures memory { kind_of error.now ≡ ErrorKind.OutOfMemory → result ≡ status_number HostFailure }
+    ensures help { (kind_of error.now ≡ ErrorKind.DisplayHelp) ⊎ (kind_of error.now ≡ ErrorKind.DisplayVersion)
+        → (result ≡ status_number Done) ⊎ (result ≡ status_number HostFailure) }
+    ensures wrong { kind_of error.now ≢ ErrorKind.OutOfMemory → kind_of error.now ≢ ErrorKind.DisplayHelp → kind_of error.now ≢ ErrorKind.DisplayVersion
+        → result ≡ status_number Usage }
+{
+    match error.kind() {
+        ErrorKind::OutOfMemory => tell(rt, &Fault::NoMemory),
+        _ => print_usage(rt, error),
     }
+}
+
+// Prints the text of an error other than out of memory, and gives its status.
+fn print_usage(rt: &HostRuntime, error: &clap::Error) -> u8
+    ensures help { (kind_of error.now ≡ ErrorKind.DisplayHelp) ⊎ (kind_of error.now ≡ ErrorKind.DisplayVersion)
+        → (result ≡ status_number Done) ⊎ (result ≡ status_number HostFailure) }
+    ensures wrong { kind_of error.now ≢ ErrorKind.DisplayHelp → kind_of error.now ≢ ErrorKind.DisplayVersion → result ≡ status_number Usage }
+{
     match error.print(rt) {
         _ if error.use_stderr() => ExitStatus::Usage.number(),
         Ok(()) => ExitStatus::Done.number(),
@@ -46,10 +64,20 @@ pub fn usage(rt: &HostRuntime, error: &clap::Error) -> u8 {
 }
 
 /// The status of a command line that can't be read: memory ran out, or a word is not UTF-8.
-pub fn unread(rt: &HostRuntime, kind: io::ErrorKind) -> u8 {
-    if kind == io::ErrorKind::OutOfMemory {
-        return tell(rt, &Fault::NoMemory);
+pub fn unread(rt: &HostRuntime, kind: io::ErrorKind) -> u8
+    ensures memory { kind ≡ host.OutOfMemory → result ≡ status_number HostFailure }
+    ensures wrong { IsUsageStatus result }
+{
+    match kind {
+        io::ErrorKind::OutOfMemory => tell(rt, &Fault::NoMemory),
+        _ => refuse_words(rt),
     }
+}
+
+// The status of a command line of which a word is not UTF-8.
+fn refuse_words(rt: &HostRuntime) -> u8
+    ensures { IsUsageStatus result }
+{
     match not_text(rt.alloc()) {
         Ok(error) => usage(rt, &error),
         Err(_) => tell(rt, &Fault::NoMemory),

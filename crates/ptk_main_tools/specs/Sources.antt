@@ -1,0 +1,64 @@
+-- The files of a source, where it is refused and what is there, and the faults of what is written of it.
+use Rattle.std.specs.Prelude.{◌≡◌, ◌⊎◌, ℕ, ◌+◌, Bool, not, ◌&&◌, List, [], ◌∷◌, ◌++◌, length, take, slice_range, ◌==◌, nat_le, nat_lt, if◌then◌else◌, Err, IsSomeAnd, codes, decimal}
+use Rattle.std.specs.List.{concat, list_all, suffix_len}
+use Rattle.ptk_asm.specs.declared.fault.AsmFault.{AsmFault}
+use Rattle.ptk_asm_language.specs.Source as definition
+use Rattle.ptk_main_line.specs.declared.requests.AsmOptions.{AsmOptions}
+use Rattle.ptk_main_faults.specs.Lines.{asm_fault}
+use Rattle.ptk_main_faults.specs.declared.fault.Fault.{Fault}
+use Rattle.ptk_main_faults.specs.declared.fault.Fault.TheVariants.{Asm, WriteFailed, NoMemory}
+use Rattle.ptk_main_tools.specs.declared.assembling.TheConstants.{MOST_SHOWN}
+
+-- ---- the files
+
+-- two of the files have the same words (own)
+abbrev pub AreMixed : AsmOptions → Type 0
+AreMixed options = (options.source.now ≡ options.image.now) ⊎ IsSomeAnd options.symbols (λ labels. (options.source.now ≡ labels.now) ⊎ (options.image.now ≡ labels.now))
+
+-- ---- the place
+
+-- the column of a byte, counted from 1: one more than there are bytes behind the last newline before it (own)
+abbrev pub column_of : List ℕ → ℕ → ℕ
+column_of source at = suffix_len (λ byte. not (byte == 10)) (take at source) + 1
+
+-- a printable character (ASCII)
+abbrev pub is_printable : ℕ → Bool
+is_printable byte = nat_le 32 byte && nat_le byte 126
+
+-- the piece is not empty, short, and of printable characters (own)
+abbrev pub is_shown : List ℕ → Bool
+is_shown piece = nat_lt 0 (length piece) && (nat_le (length piece) MOST_SHOWN && list_all is_printable piece)
+
+-- a piece with a colon and a blank behind it, where it is shown (own)
+abbrev pub piece_text : List ℕ → List ℕ
+piece_text piece = if is_shown piece then piece ++ codes ": " else []
+
+-- the bytes of a source from one to another, none where that is past its end (own)
+abbrev pub piece_of : List ℕ → ℕ → ℕ → List ℕ
+piece_of source from to = if nat_le to (length source) then slice_range source from to else []
+
+-- the line and the column of a fault (own)
+abbrev pub place_text : ℕ → ℕ → List ℕ
+place_text line column = concat (codes "line " ∷ decimal line ∷ codes ", column " ∷ decimal column ∷ codes ": " ∷ [])
+
+-- where a source is refused, and what is there (own)
+abbrev pub spot_text : List ℕ → AsmFault → List ℕ
+spot_text source fault = place_text fault.line (column_of source fault.from) ++ piece_text (piece_of source fault.from fault.to)
+
+-- ---- the faults
+
+-- the program's fault for the assembler's (own)
+abbrev pub source_fault : AsmFault → Fault
+source_fault fault = asm_fault fault.line (definition.fault_number fault.kind)
+
+-- memory ran out, or it is the first fault of the source, by its line (own)
+abbrev pub IsSourceFault : List ℕ → Fault → Type 0
+IsSourceFault bytes fault = (fault ≡ NoMemory) ⊎ ((first : definition.Fault) × (definition.source bytes ≡ Err first) × (fault ≡ Asm first.span.line (definition.fault_number first.kind)))
+
+-- memory ran out, or a file can't be written (own)
+abbrev pub IsWriteFault : Fault → Type 0
+IsWriteFault fault = (fault ≡ NoMemory) ⊎ (fault ≡ WriteFailed)
+
+-- the source is refused, or a file can't be written (own)
+abbrev pub IsAsmFault : List ℕ → Fault → Type 0
+IsAsmFault bytes fault = (fault ≡ WriteFailed) ⊎ IsSourceFault bytes fault
