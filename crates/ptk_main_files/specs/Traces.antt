@@ -3,6 +3,7 @@ use Rattle.std.specs.Prelude.{◌<◌, ◌≤◌, ℕ, Option, Some, None, IfSom
 use Rattle.ptk_words.specs.declared.TheConstants.{LAST_TICK}
 use Rattle.ptk_config.specs.Configuration.{Configuration}
 use Rattle.ptk_config.specs.Sections.{with_trace_at}
+use Rattle.ptk_main_answers.specs.Parts.{part_named}
 use Rattle.ptk_main_line.specs.declared.line.TheConstants.{MOST_STEPS, MOST_THREADS}
 use Rattle.ptk_main_line.specs.declared.requests.TraceOptions.{TraceOptions}
 
@@ -23,3 +24,7 @@ abbrev pub keeping : Option ℕ → Option ℕ → Configuration → Configurati
 keeping None p config = config
 keeping (Some k) None config = config
 keeping (Some k) (Some p) config = record config { sections = with_trace_at k p config.sections }
+
+-- a configuration as a trace is made of it: the partition that is named keeps as many steps as are asked for (own)
+abbrev pub as_traced : TraceOptions → Configuration → Configuration
+as_traced options config = keeping options.last (part_named config options.partition.now) config

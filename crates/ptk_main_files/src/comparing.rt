@@ -1,5 +1,11 @@
 //! `impact`: what a new configuration can change.
 
+ghost use Rattle.std.specs.Prelude.{◌≡◌, ◌↔◌, ◌⊎◌, IfErr, IfOk};
+ghost use Rattle.ptk_main_faults.specs.Statuses.{status_number};
+ghost use Rattle.ptk_main_faults.specs.declared.status.ExitStatus.TheVariants.{Done};
+ghost use Rattle.ptk_impact_answers.specs.Counts.{IsClear};
+ghost use Rattle.ptk_main_files.specs.Outcomes.{AreCounts, IsCountFault, IsImpactFault, IsSameRun, WithReleases};
+
 use ptk_config::Config;
 use ptk_impact_answers::{Question, Release, Tally, impact_json_with, impact_with};
 use ptk_main_faults::{ExitStatus, Fault};
@@ -17,10 +23,17 @@ pub fn impact(rt: &HostRuntime, options: ImpactOptions<'_>) -> u8 {
 // What stands between a configuration and the one in a file.
 fn impact_from(rt: &HostRuntime, old: &Config, options: ImpactOptions<'_>) -> u8 {
     match config_in(rt, options.new) {
-        Ok(config) => match put_impact(rt, old, &config, options) {
-            Ok(tally) => status_of_tally(&tally).number(),
-            Err(fault) => tell(rt, &fault),
-        },
+        Ok(config) => impact_between(rt, old, &config, options),
+        Err(fault) => tell(rt, &fault),
+    }
+}
+
+// What stands between two configurations.
+fn impact_between(rt: &HostRuntime, old: &Config, new: &Config, options: ImpactOptions<'_>) -> u8
+    ensures { result ≡ status_number Done → IsSameRun options.entry old.now new.now }
+{
+    match put_impact(rt, old, new, options) {
+        Ok(tally) => status_of_tally(&tally).number(),
         Err(fault) => tell(rt, &fault),
     }
 }
@@ -31,7 +44,10 @@ fn put_impact<'a>(
     old: &'a Config,
     new: &'a Config,
     options: ImpactOptions<'a>,
-) -> Result<Tally, Fault<'a>> {
+) -> Result<Tally, Fault<'a>>
+    ensures counted { IfOk result (λ tally. WithReleases old.now new.now (AreCounts options.entry tally)) }
+    ensures failed { IfErr result (IsImpactFault options.entry old.now new.now) }
+{
     let old_files = images_of(rt, old, options.root)?;
     let new_files = images_of(rt, new, options.root)?;
     let before = Release {
@@ -42,6 +58,19 @@ fn put_impact<'a>(
         config: new,
         files: &new_files,
     };
+    compare(rt, before, after, options)
+}
+
+// What stands between two configurations with their images, in the form that is asked for, on standard output.
+fn compare<'a>(
+    rt: &HostRuntime,
+    before: Release<'a, '_>,
+    after: Release<'a, '_>,
+    options: ImpactOptions<'a>,
+) -> Result<Tally, Fault<'a>>
+    ensures counted { IfOk result (λ tally. AreCounts options.entry tally before.entry after.entry) }
+    ensures failed { IfErr result (λ fault. IsCountFault options.entry fault before.entry after.entry) }
+{
     let question = Question {
         partition: options.partition,
         rename: options.rename,
@@ -54,7 +83,10 @@ fn put_impact<'a>(
 }
 
 // The status of what was counted.
-fn status_of_tally(tally: &Tally) -> ExitStatus {
+fn status_of_tally(tally: &Tally) -> ExitStatus
+    ensures same { IsClear tally.now ↔ (result ≡ ExitStatus.Done) }
+    ensures counted { (result ≡ ExitStatus.Done) ⊎ (result ≡ ExitStatus.Different) }
+{
     if tally.is_same_run() {
         ExitStatus::Done
     } else {

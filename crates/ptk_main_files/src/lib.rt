@@ -6,6 +6,12 @@
 //! - A run or a trace is asked for at most 2^40 ticks (`run`, `trace`, their `requires`).
 //! - `--last` of `trace` changes nothing of a configuration but the steps that one partition's trace keeps
 //!   (`keep_last`).
+//! - The status is that of what is done only where the text states a configuration of which, with some files that are
+//!   its images and nothing else, nothing is refused (`run_text`, `trace_text`, `check_text`), and of two
+//!   configurations only where the partitions that are asked for are the same runs (`impact_between`).
+//! - A fault is of an image or another file that is not read, by its name, or the one that the answer promises for such
+//!   files (`run_config`, `trace_config`, `check_config`, `put_impact`).
+//! - `trace` is a usage error where an option of a trace in words is there without `--decode`.
 //! - Which files it reads is tested; which stream gets what is neither proved nor tested.
 //!
 //! Below are the command line (`ptk_main_line`), the lines of faults (`ptk_main_faults`), the reading of files and

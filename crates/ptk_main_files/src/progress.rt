@@ -1,5 +1,7 @@
 //! The progress of a long run, on a terminal.
 
+ghost use Rattle.std.specs.Prelude.{◌≡◌, ◌≤◌, None, IsTrue};
+
 use ptk_main_answers::Watch;
 use ptk_words::Tick;
 use std::io::{IsTerminal, Write};
@@ -17,7 +19,9 @@ pub(crate) struct Progress<'r> {
 
 impl<'r> Progress<'r> {
     /// Begins to watch; a quiet one shows nothing.
-    pub(crate) fn begin(rt: &'r HostRuntime, quiet: bool) -> Progress<'r> {
+    pub(crate) fn begin(rt: &'r HostRuntime, quiet: bool) -> Progress<'r>
+        ensures { IsTrue quiet → result.start ≡ None }
+    {
         let start = if !quiet && rt.stderr().is_terminal() {
             Instant::now(rt).ok()
         } else {
@@ -40,7 +44,10 @@ impl<'r> Progress<'r> {
 }
 
 impl Watch for Progress<'_> {
-    fn reached(&mut self, tick: Tick, last: Tick) {
+    fn reached(&mut self, tick: Tick, last: Tick)
+        ensures kept { self.new ≡ record self.old { next = self.new.next } }
+        ensures later { self.old.next ≤ self.new.next }
+    {
         let Some(start) = self.start else {
             return;
         };

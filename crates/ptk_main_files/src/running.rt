@@ -1,7 +1,11 @@
 //! `run`: the report of a run of the configuration in a file.
 
-ghost use Rattle.std.specs.Prelude.{◌≤◌};
+ghost use Rattle.std.specs.Prelude.{◌≡◌, ◌≤◌, IfErr, IfOk, IsOkAnd, OnOk, is_some};
 ghost use Rattle.ptk_words.specs.declared.TheConstants.{LAST_TICK};
+ghost use Rattle.ptk_config.specs.Configuration.{configuration_in};
+ghost use Rattle.ptk_main_faults.specs.Statuses.{status_number};
+ghost use Rattle.ptk_main_faults.specs.declared.status.ExitStatus.TheVariants.{Done};
+ghost use Rattle.ptk_main_files.specs.Outcomes.{IsNamedReadFault, IsRunFault, IsWhole};
 
 use crate::explaining::refused;
 use crate::progress::Progress;
@@ -17,11 +21,19 @@ pub fn run(rt: &HostRuntime, options: RunOptions<'_>) -> u8
     requires { options.run.ticks ≤ LAST_TICK }
 {
     match text_in(rt, options.run.file) {
-        Ok(text) => match config_of(rt, text.as_str()) {
-            Ok(config) => end(rt, run_config(rt, &config, options)),
-            Err(fault) => refused(rt, text.as_str(), options.explain, &fault),
-        },
+        Ok(text) => run_text(rt, text.as_str(), options),
         Err(fault) => tell(rt, &fault),
+    }
+}
+
+// The report of a run of the configuration that a text states.
+fn run_text(rt: &HostRuntime, text: &str, options: RunOptions<'_>) -> u8
+    requires { options.run.ticks ≤ LAST_TICK }
+    ensures { result ≡ status_number Done → IsOkAnd (configuration_in text.now) IsWhole }
+{
+    match config_of(rt, text) {
+        Ok(config) => end(rt, run_config(rt, &config, options)),
+        Err(fault) => refused(rt, text, options.explain, &fault),
     }
 }
 
@@ -32,8 +44,10 @@ fn run_config<'a>(
     options: RunOptions<'a>,
 ) -> Result<(), Fault<'a>>
     requires { options.run.ticks ≤ LAST_TICK }
+    ensures whole { OnOk result (IsWhole config.now) }
+    ensures failed { IfErr result (IsRunFault options.entry config.now) }
 {
-    let expected = options.expect.map(|name| bytes_in(rt, name)).transpose()?;
+    let expected = expected_bytes(rt, options.expect)?;
     let files = images_of(rt, config, options.run.root)?;
     let question = RunQuestion {
         ticks: Tick::new(options.run.ticks),
@@ -53,4 +67,18 @@ fn run_config<'a>(
     );
     progress.finish();
     outcome
+}
+
+// The bytes of the expected report, where its file is named.
+fn expected_bytes<'a>(rt: &HostRuntime, name: Option<&'a str>) -> Result<Option<Vec<u8>>, Fault<'a>>
+    ensures named { IfOk result (λ bytes. is_some bytes ≡ is_some name.entry) }
+    ensures unread { IfErr result (IsNamedReadFault name.entry) }
+{
+    match name {
+        Some(name) => match bytes_in(rt, name) {
+            Ok(bytes) => Ok(Some(bytes)),
+            Err(fault) => Err(fault),
+        },
+        None => Ok(None),
+    }
 }

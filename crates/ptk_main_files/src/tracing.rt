@@ -1,9 +1,17 @@
 //! `trace`: the last steps of a partition, as they are or in words.
 
-ghost use Rattle.std.specs.Prelude.{◌≡◌, ◌+◌, ◌-◌, ◌^◌, min, unwrap_or};
+ghost use Rattle.std.specs.Prelude.{◌≡◌, ◌⊎◌, ◌+◌, ◌-◌, ◌^◌, min, true, false, None, unwrap_or, IfErr, IsOkAnd, OnOk};
+ghost use Rattle.ptk_config.specs.Configuration.{configuration_in};
 ghost use Rattle.ptk_main_answers.specs.Parts.{part_named};
+ghost use Rattle.ptk_main_answers.specs.Refusals.{IsFaultOf};
+ghost use Rattle.ptk_main_line.specs.Requests.{wants_words};
 ghost use Rattle.ptk_main_line.specs.declared.line.TheConstants.{MOST_TICKS};
-ghost use Rattle.ptk_main_files.specs.Traces.{AreSteps, IsThread, IsTraceInRange, keeping};
+ghost use Rattle.ptk_main_faults.specs.Statuses.{status_number};
+ghost use Rattle.ptk_main_faults.specs.declared.status.ExitStatus.TheVariants.{Done};
+ghost use Rattle.ptk_main_tools.specs.Reading.{IsSymbolsFileFault};
+ghost use Rattle.ptk_main_tools.specs.Usage.{IsUsageStatus};
+ghost use Rattle.ptk_main_files.specs.Outcomes.{IsTraceFault, IsTraced, partition_refusal};
+ghost use Rattle.ptk_main_files.specs.Traces.{AreSteps, IsThread, IsTraceInRange, as_traced, keeping};
 
 use crate::explaining::refused;
 use ptk_config::Config;
@@ -18,12 +26,10 @@ use ptk_words::{ThreadNo, Tick};
 /// The last steps of a partition. A usage error where an option of a trace in words is there without `--decode`.
 pub fn trace(rt: &HostRuntime, options: TraceOptions<'_>) -> u8
     requires { IsTraceInRange options }
+    ensures { wants_words options.entry ≡ true → options.entry.decode ≡ false → IsUsageStatus result }
 {
     if options.wants_words() && !options.decode {
-        return match undecoded(rt.alloc()) {
-            Ok(error) => usage(rt, &error),
-            Err(_) => tell(rt, &Fault::NoMemory),
-        };
+        return refuse_undecoded(rt);
     }
     match text_in(rt, options.run.file) {
         Ok(text) => trace_text(rt, text.as_str(), options),
@@ -31,9 +37,20 @@ pub fn trace(rt: &HostRuntime, options: TraceOptions<'_>) -> u8
     }
 }
 
+// The status of a command line with an option of a trace in words and without `--decode`.
+fn refuse_undecoded(rt: &HostRuntime) -> u8
+    ensures { IsUsageStatus result }
+{
+    match undecoded(rt.alloc()) {
+        Ok(error) => usage(rt, &error),
+        Err(_) => tell(rt, &Fault::NoMemory),
+    }
+}
+
 // The last steps of a partition of the configuration that a text states.
 fn trace_text(rt: &HostRuntime, text: &str, options: TraceOptions<'_>) -> u8
     requires { IsTraceInRange options }
+    ensures { result ≡ status_number Done → IsOkAnd (configuration_in text.now) (λ config. IsTraced options.entry (as_traced options.entry config)) }
 {
     match config_of(rt, text) {
         Ok(mut config) => {
@@ -63,14 +80,31 @@ fn trace_config<'a>(
     options: TraceOptions<'a>,
 ) -> Result<(), Fault<'a>>
     requires { IsTraceInRange options }
+    ensures traced { OnOk result (IsTraced options.entry config.now) }
+    ensures failed { IfErr result (IsTraceFault options.entry config.now) }
 {
     let files = images_of(rt, config, options.run.root)?;
+    put_steps(rt, config, &files, options)
+}
+
+// The last steps of a partition of a configuration with its images, on standard output.
+fn put_steps<'a>(
+    rt: &HostRuntime,
+    config: &'a Config,
+    files: &Files,
+    options: TraceOptions<'a>,
+) -> Result<(), Fault<'a>>
+    requires { IsTraceInRange options }
+    ensures accepted { OnOk result (partition_refusal options.entry.partition.now config.now files.now ≡ None) }
+    ensures failed { IfErr result (λ fault. IsSymbolsFileFault options.entry.symbols fault
+        ⊎ IsFaultOf (partition_refusal options.entry.partition.now config.now files.now) (partition_refusal options.entry.partition.now config.now files.now) fault) }
+{
     if options.decode {
-        return put_words(rt, config, &files, options);
+        return put_words(rt, config, files, options);
     }
     let ticks = Tick::new(options.run.ticks);
     let out = &mut rt.stdout();
-    trace_answer(rt.alloc(), config, &files, ticks, options.partition, out)
+    trace_answer(rt.alloc(), config, files, ticks, options.partition, out)
 }
 
 // The last steps of a partition of a configuration in words, on standard output.
@@ -81,6 +115,9 @@ fn put_words<'a>(
     options: TraceOptions<'a>,
 ) -> Result<(), Fault<'a>>
     requires { IsTraceInRange options }
+    ensures accepted { OnOk result (partition_refusal options.entry.partition.now config.now files.now ≡ None) }
+    ensures failed { IfErr result (λ fault. IsSymbolsFileFault options.entry.symbols fault
+        ⊎ IsFaultOf (partition_refusal options.entry.partition.now config.now files.now) (partition_refusal options.entry.partition.now config.now files.now) fault) }
 {
     let text = symbols_text_in(rt, options.symbols)?;
     let symbols = symbols_of(rt, options.symbols, text.as_str())?;

@@ -1,0 +1,130 @@
+-- What comes of a request over a configuration and the images that were read of it.
+use Rattle.std.specs.Prelude.{◌≡◌, ◌≢◌, ◌⊎◌, ◌↔◌, ℕ, List, Option, Some, None, IsOkAnd, codes}
+use Rattle.std.specs.Option.{option_or}
+use Rattle.std.specs.Borrow.{Bor}
+use Rattle.ptk_config.specs.Configuration.{Configuration, configuration_in}
+use Rattle.ptk_config.specs.Sections.{Section}
+use Rattle.ptk_main_line.specs.declared.requests.ImpactOptions.{ImpactOptions}
+use Rattle.ptk_main_line.specs.declared.requests.RunOptions.{RunOptions}
+use Rattle.ptk_main_line.specs.declared.requests.TraceOptions.{TraceOptions}
+use Rattle.ptk_main_faults.specs.Lines.{status_of}
+use Rattle.ptk_main_faults.specs.Told.{text, told}
+use Rattle.ptk_main_faults.specs.declared.fault.Fault.{Fault}
+use Rattle.ptk_main_faults.specs.declared.fault.Fault.TheVariants.{NotText, WriteFailed, NoMemory}
+use Rattle.ptk_main_faults.specs.declared.status.ExitStatus.TheVariants.{Unexpected}
+use Rattle.ptk_main_tools.specs.NamedFiles.{NamedFile}
+use Rattle.ptk_main_tools.specs.Reading.{AreImagesOf, IsImagesFault, IsReadFault, IsSymbolsFileFault}
+use Rattle.ptk_main_answers.specs.HostFaults.{IsHostFault}
+use Rattle.ptk_main_answers.specs.Parts.{part_named}
+use Rattle.ptk_main_answers.specs.Refusals.{IsFaultOf, missing_image, refused_image, refused_trace}
+use Rattle.ptk_impact_answers.specs.Counts.{IsClear}
+use Rattle.ptk_impact_answers.specs.Refusals.{refusal}
+use Rattle.ptk_impact_answers.specs.Renaming.{renames_of}
+use Rattle.ptk_impact_answers.specs.SameRuns.{AreSameRuns}
+use Rattle.ptk_impact_answers.specs.declared.answer.Question.{Question}
+use Rattle.ptk_impact_answers.specs.declared.release.Release.{Release}
+use Rattle.ptk_impact_answers.specs.declared.tally.Tally.{Tally}
+
+-- ---- the images that were read
+
+-- so it is with some files that are images of these sections and nothing else (own)
+abbrev pub WithImages : List Section → (List NamedFile → Type 0) → Type 0
+WithImages sections P = (files : List NamedFile) × AreImagesOf sections files × P files
+
+-- nothing is refused with the images that were read (own)
+abbrev pub IsAccepted : List Section → (List NamedFile → Option Fault) → Type 0
+IsAccepted sections refusal = WithImages sections (λ files. refusal files ≡ None)
+
+-- an image is not read; or with those that were read it is the fault by what is lacking and by the refusal (own)
+abbrev pub IsRefused : List Section → (List NamedFile → Option Fault) → (List NamedFile → Option Fault) → Fault → Type 0
+IsRefused sections lack refusal fault = IsImagesFault sections fault ⊎ WithImages sections (λ files. IsFaultOf (lack files) (refusal files) fault)
+
+-- ---- a check
+
+-- the first image that is missing, else the first that is refused (own)
+abbrev pub check_refusal : Configuration → List NamedFile → Option Fault
+check_refusal config files = option_or (missing_image config files) (refused_image config files)
+
+-- the configuration has all its images, and none is refused (own)
+abbrev pub IsSound : Configuration → Type 0
+IsSound config = IsAccepted config.sections (check_refusal config)
+
+-- the text states a configuration that is sound (own)
+abbrev pub StatesSound : List ℕ → Type 0
+StatesSound bytes = IsOkAnd (configuration_in bytes) IsSound
+
+-- the explanation of a text is no text (own)
+abbrev pub IsNoExplanation : Fault → Type 0
+IsNoExplanation fault = told fault ≡ NotText (text (codes "the explanation"))
+
+-- it is of the host, or the refusal of a check (own)
+abbrev pub IsCheckFault : Configuration → Fault → Type 0
+IsCheckFault config fault = IsHostFault fault ⊎ IsRefused config.sections (missing_image config) (check_refusal config) fault
+
+-- ---- a run
+
+-- a file is named, and it is not there, or not read (own)
+abbrev pub IsNamedReadFault : Option (Bor (List ℕ)) → Fault → Type 0
+IsNamedReadFault None fault = ⊥
+IsNamedReadFault (Some name) fault = IsReadFault name fault
+
+-- the configuration has all its images (own)
+abbrev pub IsWhole : Configuration → Type 0
+IsWhole config = IsAccepted config.sections (missing_image config)
+
+-- the run was not as expected, by its report or by a partition (own)
+abbrev pub IsUnexpected : Fault → Type 0
+IsUnexpected fault = status_of fault ≡ Unexpected
+
+-- a run's fault with these files: of the host, the first missing image, or where none is missing that it was not as expected (own)
+abbrev pub IsRunFaultWith : Configuration → Fault → List NamedFile → Type 0
+IsRunFaultWith config fault files = IsHostFault fault ⊎ (IsFaultOf (missing_image config files) (missing_image config files) fault ⊎ ((missing_image config files ≡ None) × IsUnexpected fault))
+
+-- the expected report or an image is not read, or it is the fault of a run with the images that were (own)
+abbrev pub IsRunFault : RunOptions → Configuration → Fault → Type 0
+IsRunFault options config fault = IsNamedReadFault options.expect fault ⊎ (IsImagesFault config.sections fault ⊎ WithImages config.sections (IsRunFaultWith config fault))
+
+-- ---- a trace
+
+-- no partition has this name; else the first missing image (own)
+abbrev pub partition_refusal : List ℕ → Configuration → List NamedFile → Option Fault
+partition_refusal name config files = refused_trace (part_named config name) config files name
+
+-- the configuration has the partition and all its images (own)
+abbrev pub IsTraced : TraceOptions → Configuration → Type 0
+IsTraced options config = IsAccepted config.sections (partition_refusal options.partition.now config)
+
+-- the symbols are not read; or it is the refusal of a trace (own)
+abbrev pub IsTraceFault : TraceOptions → Configuration → Fault → Type 0
+IsTraceFault options config fault = IsSymbolsFileFault options.symbols fault ⊎ IsRefused config.sections (partition_refusal options.partition.now config) (partition_refusal options.partition.now config) fault
+
+-- ---- a comparison
+
+-- a configuration with the images that were read of it (own)
+abbrev pub IsReleaseOf : Configuration → Release → Type 0
+IsReleaseOf config release = (release.config.now ≡ config) × AreImagesOf config.sections release.files.now
+
+-- so it is with two configurations and the images that were read of each (own)
+abbrev pub WithReleases : Configuration → Configuration → (Release → Release → Type 0) → Type 0
+WithReleases old new P = (before : Release) × (after : Release) × IsReleaseOf old before × IsReleaseOf new after × P before after
+
+-- what is asked of a comparison (own)
+abbrev pub question_of : ImpactOptions → Question
+question_of options = record { partition = options.partition; rename = options.rename }
+
+-- the counts are clear if and only if the partitions that are asked for are the same runs (own)
+abbrev pub AreCounts : ImpactOptions → Tally → Release → Release → Type 0
+AreCounts options tally before after = IsOkAnd (renames_of options.rename) (λ renames. IsClear tally ↔ AreSameRuns renames options.partition before after)
+
+-- a failed write is said only where nothing is refused, and any other fault but out of memory is the refusal's (own)
+pub record IsCountFault (options : ImpactOptions) (fault : Fault) (before after : Release) : Type 0 where
+  pub write : fault ≡ WriteFailed → refusal before after (question_of options) ≡ None
+  pub other : fault ≢ NoMemory → fault ≢ WriteFailed → refusal before after (question_of options) ≡ Some (told fault)
+
+-- an image of either is not read; or it is the fault of a comparison (own)
+abbrev pub IsImpactFault : ImpactOptions → Configuration → Configuration → Fault → Type 0
+IsImpactFault options old new fault = IsImagesFault old.sections fault ⊎ (IsImagesFault new.sections fault ⊎ WithReleases old new (IsCountFault options fault))
+
+-- the partitions that are asked for are the same runs (own)
+abbrev pub IsSameRun : ImpactOptions → Configuration → Configuration → Type 0
+IsSameRun options old new = WithReleases old new (λ before after. IsOkAnd (renames_of options.rename) (λ renames. AreSameRuns renames options.partition before after))
