@@ -1,1 +1,3 @@
 pub mod InRange
+pub mod Wrong
+pub mod Pictures

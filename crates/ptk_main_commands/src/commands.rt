@@ -1,5 +1,8 @@
 //! What the words of the command line ask for.
 
+ghost use Rattle.std.specs.Prelude.{map};
+ghost use Rattle.ptk_main_files.specs.Usage.{IsUsageStatus};
+ghost use Rattle.ptk_main_commands.specs.Refusals.{AreWrong};
 ghost use Rattle.ptk_main_commands.specs.Requests.{IsInRange};
 
 use crate::counting::stats;
@@ -12,7 +15,9 @@ use ptk_main_line::{Request, read_line};
 /// status. The text of words that ask for nothing goes to standard error, that of a request for help to standard
 /// output.
 #[tactic(auto, using(crate::proofs::InRange::asks_in_range))]
-pub fn answer_words(rt: &HostRuntime, words: &[&str]) -> u8 {
+pub fn answer_words(rt: &HostRuntime, words: &[&str]) -> u8
+    ensures { AreWrong (map (λ word. word.now) words.entry.now) → IsUsageStatus result }
+{
     match read_line(rt.alloc(), words) {
         Ok(request) => obey(rt, request),
         Err(error) => usage(rt, &error),

@@ -1,10 +1,12 @@
 //! `stats`: the figures of a run.
 
-ghost use Rattle.std.specs.Prelude.{◌≡◌, ◌≤◌, None, MatchResult};
+ghost use Rattle.std.specs.Prelude.{◌≡◌, ◌≤◌, None, IfErr, MatchResult, OnOk};
 ghost use Rattle.std.specs.Option.{option_map_or};
 ghost use Rattle.ptk_words.specs.declared.TheConstants.{LAST_TICK};
+ghost use Rattle.ptk_main_files.specs.Outcomes.{IsAccepted, IsRefused};
 ghost use Rattle.ptk_main_files.specs.Parts.{part_named};
 ghost use Rattle.ptk_main_files.specs.Refusals.{IsFaultOf, missing_image, refused_trace};
+ghost use Rattle.ptk_main_commands.specs.Refusals.{stats_refusal};
 
 use ptk_config::Config;
 use ptk_main_faults::Fault;
@@ -32,6 +34,8 @@ fn stats_config<'a>(
     options: StatsOptions<'a>,
 ) -> Result<(), Fault<'a>>
     requires { options.run.ticks ≤ LAST_TICK }
+    ensures accepted { OnOk result (IsAccepted config.now.sections (stats_refusal options.entry.partition config.now)) }
+    ensures refused { IfErr result (IsRefused config.now.sections (stats_refusal options.entry.partition config.now) (stats_refusal options.entry.partition config.now)) }
 {
     let files = images_of(rt, config, options.run.root)?;
     stats_answer(

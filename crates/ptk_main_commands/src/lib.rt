@@ -4,7 +4,10 @@
 //! the status of each request (`answer_words`, `obey`), among them `timeline`, `explain` and `stats`.
 //!
 //! - A run, a trace or a picture is asked for at most 2^40 ticks (`obey`, `requires`).
-//! - `standing_answer`, `timeline_answer` and `stats_answer` promise their refusals alone.
+//! - Words that `clap` refuses, and that ask for no help, end with a usage error, or for memory (`answer_words`).
+//! - `standing_answer`, `timeline_answer` and `stats_answer` promise their refusals alone, and with them
+//!   `explain_config`, `timeline_config` and `stats_config`, for some files that are images of the sections and nothing
+//!   else.
 //! - Which files it reads is tested; which stream gets what is neither proved nor tested.
 //!
 //! Below are the other requests (`ptk_main_files`), and what this crate alone joins: the pictures (`ptk_timeline`,

@@ -5,7 +5,9 @@ ghost use Rattle.ptk_words.specs.declared.TheConstants.{LAST_TICK};
 ghost use Rattle.ptk_timeline_formats.specs.Missing.{first_missing};
 ghost use Rattle.ptk_timeline_formats.specs.declared.fault.FormatFault.TheVariants.{FromPastEnd};
 ghost use Rattle.ptk_timeline_formats.specs.Faults.{missing_in_format};
+ghost use Rattle.ptk_main_files.specs.Outcomes.{IsAccepted};
 ghost use Rattle.ptk_main_files.specs.Refusals.{IsFaultOf, refused_picture};
+ghost use Rattle.ptk_main_commands.specs.Refusals.{IsNamedRefusal, picture_refusal};
 
 use ptk_config::Config;
 use ptk_main_faults::Fault;
@@ -37,6 +39,8 @@ fn timeline_config<'a>(
     options: TimelineOptions<'a>,
 ) -> Result<(), Fault<'a>>
     requires { options.run.ticks ≤ LAST_TICK }
+    ensures accepted { OnOk result (IsAccepted config.now.sections (picture_refusal options.entry config.now)) }
+    ensures refused { IfErr result (IsNamedRefusal options.entry.symbols config.now (picture_refusal options.entry config.now)) }
 {
     let files = images_of(rt, config, options.run.root)?;
     let text = symbols_text_in(rt, options.symbols)?;

@@ -1,9 +1,11 @@
 //! `explain`: how a partition stands after a run.
 
-ghost use Rattle.std.specs.Prelude.{◌≡◌, ◌≤◌, None, MatchResult};
+ghost use Rattle.std.specs.Prelude.{◌≡◌, ◌≤◌, None, IfErr, MatchResult, OnOk};
 ghost use Rattle.ptk_words.specs.declared.TheConstants.{LAST_TICK};
+ghost use Rattle.ptk_main_files.specs.Outcomes.{IsAccepted, partition_refusal};
 ghost use Rattle.ptk_main_files.specs.Parts.{part_named};
 ghost use Rattle.ptk_main_files.specs.Refusals.{IsFaultOf, refused_trace};
+ghost use Rattle.ptk_main_commands.specs.Refusals.{IsNamedRefusal};
 
 use ptk_config::Config;
 use ptk_explanation::{Form, explain_partition_with};
@@ -34,6 +36,8 @@ fn explain_config<'a>(
     options: ExplainOptions<'a>,
 ) -> Result<(), Fault<'a>>
     requires { options.run.ticks ≤ LAST_TICK }
+    ensures accepted { OnOk result (IsAccepted config.now.sections (partition_refusal options.entry.partition.now config.now)) }
+    ensures refused { IfErr result (IsNamedRefusal options.entry.symbols config.now (partition_refusal options.entry.partition.now config.now)) }
 {
     let files = images_of(rt, config, options.run.root)?;
     let text = symbols_text_in(rt, options.symbols)?;
