@@ -1,9 +1,14 @@
 //! Where things are in the picture, in pixels from its upper left corner.
 
-ghost use Rattle.std.specs.Prelude.{◌<◌, ◌≤◌};
+ghost use Rattle.std.specs.Prelude.{◌≡◌, ℕ, ◌+◌, ◌*◌, ◌<◌, ◌≤◌};
+ghost use Rattle.std.specs.List.{list_any};
+ghost use Rattle.ptk_words.specs.declared.TheConstants.{LAST_TICK};
+ghost use Rattle.ptk_timeline_segments.specs.Columns.{start_of};
+ghost use Rattle.ptk_timeline_segments.specs.Shades.{shade_of};
+ghost use Rattle.ptk_timeline.specs.Layout.{are_steps_wide, are_windows_wide, column_place, column_width, columns_of, is_shown, is_thread, lane_height, lanes_end, picture_height, picture_width, place_of, plot_width, shows_thread};
 
 use ptk_config::Config;
-use ptk_timeline_segments::{Lane, LaneRow, Recording, Scale, Shade};
+use ptk_timeline_segments::{Cell, Lane, LaneRow, Recording, Scale, Shade};
 use ptk_words::PartId;
 
 /// How many columns a picture has at most.
@@ -41,17 +46,28 @@ pub(crate) struct Place {
 
 impl Place {
     /// The partition.
-    pub(crate) fn part(self) -> PartId {
+    pub(crate) fn part(self) -> PartId
+        ensures { result ≡ self.number }
+    {
         PartId::new(self.number as u8)
     }
 }
 
+/// How many columns there are.
+fn column_count(scale: Scale) -> u64
+    ensures value { result ≡ columns_of scale }
+    ensures few { result ≤ LAST_TICK }
+{
+    scale.columns() as u64
+}
+
 /// A column's width: as wide as the picture fits 1,200 pixels, but two at least, so that none is wider than 2,000.
 pub(crate) fn column_width(scale: Scale) -> u64
+    ensures value { result ≡ column_width scale }
     ensures positive { 0 < result }
     ensures narrow { result ≤ 24 }
 {
-    let columns = (scale.columns() as u64).max(1);
+    let columns = column_count(scale).max(1);
     if scale.each() == 1 {
         (1200 / columns).max(2).min(24)
     } else {
@@ -59,48 +75,106 @@ pub(crate) fn column_width(scale: Scale) -> u64
     }
 }
 
-/// Whether a column is a tick, and wide enough for its steps to be seen apart.
-pub(crate) fn are_steps_wide(scale: Scale) -> bool {
-    scale.each() == 1 && column_width(scale) >= 4
+/// Whether a column is a tick, and wide enough for its steps to be seen apart: where there are at most 300 ticks.
+pub(crate) fn are_steps_wide(scale: Scale) -> bool
+    ensures { result ≡ are_steps_wide scale }
+{
+    if scale.each() != 1 {
+        return false;
+    }
+    column_width(scale) >= 4
 }
 
 /// The width of all columns.
-pub(crate) fn plot_width(scale: Scale) -> u64 {
-    (scale.columns() as u64).saturating_mul(column_width(scale))
+pub(crate) fn plot_width(scale: Scale) -> u64
+    ensures value { result ≡ plot_width scale }
+    ensures narrow { result ≤ 24 * LAST_TICK }
+{
+    column_count(scale).saturating_mul(column_width(scale))
 }
 
 /// The width of the picture, at least what the legend needs.
-pub(crate) fn picture_width(scale: Scale) -> u64 {
+pub(crate) fn picture_width(scale: Scale) -> u64
+    ensures { result ≡ picture_width scale }
+{
     plot_width(scale).max(960).saturating_add(LEFT + 30)
 }
 
-/// Where a tick begins, from the left.
-pub(crate) fn place_of(scale: Scale, tick: u64) -> u64 {
+/// Where a tick begins, from the left: within the columns, and no later tick is further left.
+pub(crate) fn place_of(scale: Scale, tick: u64) -> u64
+    ensures value { result ≡ place_of scale tick }
+    ensures from { LEFT ≤ result }
+    ensures within { result ≤ LEFT + plot_width scale }
+    ensures order { (later : ℕ) → tick ≤ later → result ≤ place_of scale later }
+{
     let ticks = tick.min(scale.to()).saturating_sub(scale.from());
     let place = ticks.saturating_mul(column_width(scale)) / scale.each();
     place.saturating_add(LEFT)
 }
 
-/// Whether windows are drawn: where a frame is two columns wide or wider.
-pub(crate) fn are_windows_wide(config: &Config, scale: Scale) -> bool {
+/// Whether windows are drawn: where a frame is four pixels wide or wider.
+pub(crate) fn are_windows_wide(config: &Config, scale: Scale) -> bool
+    ensures { result ≡ are_windows_wide config.now scale }
+{
     u64::from(config.frame()).saturating_mul(column_width(scale)) / scale.each() >= 4
 }
 
-/// Where a column begins, from the left.
-pub(crate) fn column_place(scale: Scale, column: usize) -> u64 {
+/// Where a column begins, from the left: where its first tick does, if it has one.
+pub(crate) fn column_place(scale: Scale, column: usize) -> u64
+    ensures value { result ≡ column_place scale column }
+    ensures tick { start_of scale column < scale.to → result ≡ place_of scale (start_of scale column) }
+{
     let place = (column as u64).saturating_mul(column_width(scale));
     place.saturating_add(LEFT)
 }
 
+/// Whether this is the shade of a thread.
+fn is_thread(shade: Shade) -> bool
+    ensures { result ≡ is_thread shade }
+{
+    match shade {
+        Shade::Free => false,
+        Shade::Running
+        | Shade::Ready
+        | Shade::Input
+        | Shade::Sleep
+        | Shade::Join
+        | Shade::Mutex
+        | Shade::Condition
+        | Shade::Relock
+        | Shade::Ended
+        | Shade::Halted => true,
+    }
+}
+
+/// Whether a column has a thread at some tick.
+fn shows_thread(cell: &Cell) -> bool
+    ensures { result ≡ shows_thread cell.now }
+{
+    if cell.is_mixed {
+        return true;
+    }
+    is_thread(cell.look.shade())
+}
+
 /// Whether a row has a thread at some tick.
-pub(crate) fn is_shown(row: &LaneRow) -> bool {
-    row.cells()
-        .iter()
-        .any(|cell| cell.is_mixed || cell.look.shade() != Shade::Free)
+pub(crate) fn is_shown(row: &LaneRow) -> bool
+    ensures { result ≡ is_shown row.now }
+{
+    is_any_shown(row.cells())
+}
+
+/// Whether one of these columns has a thread at some tick.
+fn is_any_shown(cells: &[Cell]) -> bool
+    ensures { result ≡ list_any shows_thread cells.now }
+{
+    cells.iter().any(|cell| shows_thread(cell))
 }
 
 /// The height of a lane; one without threads has room for a row.
-pub(crate) fn lane_height(lane: &Lane) -> u32 {
+pub(crate) fn lane_height(lane: &Lane) -> u32
+    ensures { result ≡ lane_height lane.now }
+{
     let mut rows = 0u32;
     for row in lane.rows().iter() {
         if is_shown(row) {
@@ -111,7 +185,9 @@ pub(crate) fn lane_height(lane: &Lane) -> u32 {
 }
 
 /// Where the last lane ends, from the top.
-pub(crate) fn lanes_end(recording: &Recording) -> u32 {
+pub(crate) fn lanes_end(recording: &Recording) -> u32
+    ensures { result ≡ lanes_end recording.now.lanes.items }
+{
     let mut end = TOP;
     for lane in recording.lanes().iter() {
         end = end.saturating_add(lane_height(lane)).saturating_add(GAP);
@@ -120,6 +196,8 @@ pub(crate) fn lanes_end(recording: &Recording) -> u32 {
 }
 
 /// The height of the picture.
-pub(crate) fn picture_height(recording: &Recording) -> u32 {
+pub(crate) fn picture_height(recording: &Recording) -> u32
+    ensures { result ≡ picture_height recording.now.lanes.items }
+{
     lanes_end(recording).saturating_add(LEGEND)
 }
