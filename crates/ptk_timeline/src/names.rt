@@ -1,11 +1,16 @@
 //! Texts in a picture.
 
+ghost use Rattle.std.specs.Prelude.{◌≡◌, Some};
+ghost use Rattle.ptk_timeline.specs.Words.{class_of, owner_words};
+
 use ptk_timeline_segments::{Activity, Look, Shade};
 use ptk_words::{Owner, Wait};
 use std::fmt;
 
 /// The class of a shade in the picture's style.
-pub(crate) fn class_of(shade: Shade) -> &'static str {
+pub(crate) fn class_of(shade: Shade) -> &'static str
+    ensures { result.now ≡ class_of shade }
+{
     match shade {
         Shade::Free => "free",
         Shade::Running => "running",
@@ -76,6 +81,8 @@ impl fmt::Display for WaitWords {
 struct OwnerWords(Option<Owner>);
 
 impl fmt::Display for OwnerWords {
+    ghost output = { λ w. Some (owner_words w.0) };
+
     fn fmt<W: fmt::Write>(&self, f: &mut fmt::Formatter<W>) -> fmt::Result {
         match self.0 {
             Some(Owner::OwnedBy(thread)) => write!(f, "owned by thread {}", thread.number()),
