@@ -1,3 +1,4 @@
 pub mod Layout
 pub mod Words
+pub mod Starts
 pub mod Heads

@@ -1,7 +1,12 @@
 //! Where the threads of a run start, and the names of the routines there.
 
-ghost use Rattle.std.specs.Prelude.{◌≡◌, ◌<◌, ◌≤◌, length};
-ghost use Rattle.ptk_words.specs.declared.TheConstants.{LAST_TICK};
+ghost use Rattle.std.specs.Prelude.{◌≡◌, ◌<◌, ◌≤◌, [], IfOk, OnErr, length, max, option_map, replicate};
+ghost use Rattle.ptk_words.specs.declared.TheConstants.{LAST_TICK, THREAD_LIMIT};
+ghost use Rattle.ptk_symbols.specs.Tables.{exact};
+ghost use Rattle.ptk_timeline_segments.specs.Shades.{shade_of};
+ghost use Rattle.ptk_timeline_segments.specs.World.{at_tick};
+ghost use Rattle.ptk_timeline.specs.Layout.{is_thread};
+ghost use Rattle.ptk_timeline.specs.Starts.{IsSeen, has_thread, no_thread, routine_of, start_of};
 
 use ptk_symbols::{Located, Symbols};
 use ptk_timeline_segments::{Activity, System};
@@ -17,7 +22,9 @@ struct Seen {
 
 impl Seen {
     /// Of a number that no thread has had.
-    fn new() -> Seen {
+    fn new() -> Seen
+        ensures { result ≡ no_thread }
+    {
         Seen {
             is_used: false,
             start: None,
@@ -28,12 +35,27 @@ impl Seen {
     /// yet.
     fn look(&mut self, system: &System<'_>, p: PartId, t: ThreadNo)
         requires { p < length system.now.config.sections }
+        ensures { IsSeen (has_thread system.now p t) self.old self.new }
     {
-        let is_used = system.activity(p, t) != Activity::Free;
+        let is_used = is_thread_doing(&system.activity(p, t));
         if is_used && !self.is_used {
             self.start = system.pc(p, t);
         }
         self.is_used = is_used;
+    }
+}
+
+/// Whether this is what a thread does.
+fn is_thread_doing(activity: &Activity) -> bool
+    ensures { result ≡ is_thread (shade_of activity.now) }
+{
+    match activity {
+        Activity::Free => false,
+        Activity::Running
+        | Activity::Ready
+        | Activity::Blocked(_)
+        | Activity::Ended
+        | Activity::Halted => true,
     }
 }
 
@@ -45,9 +67,11 @@ struct Numbers {
 
 impl Numbers {
     /// No thread yet. An error where memory ran out.
-    fn new(alloc: Global) -> Result<Numbers, AllocError> {
+    fn new(alloc: Global) -> Result<Numbers, AllocError>
+        ensures { IfOk result (λ numbers. numbers.seen.items ≡ replicate THREAD_LIMIT no_thread) }
+    {
         let mut seen = Vec::new(alloc);
-        for _ in 0..THREAD_LIMIT {
+        for _number in 0..THREAD_LIMIT {
             seen.push(Seen::new())?;
         }
         Ok(Numbers { seen })
@@ -56,6 +80,7 @@ impl Numbers {
     /// What is seen of a partition's threads after a decision.
     fn look(&mut self, system: &System<'_>, p: PartId)
         requires { p < length system.now.config.sections }
+        ensures { length self.new.seen.items ≡ length self.old.seen.items }
     {
         for i in 0..self.seen.len().min(THREAD_LIMIT as usize) {
             self.seen[i].look(system, p, ThreadNo::new(i as u8 + 1));
@@ -72,7 +97,9 @@ pub struct Starts {
 
 impl Starts {
     /// No thread starts.
-    pub fn none(alloc: Global) -> Starts {
+    pub fn none(alloc: Global) -> Starts
+        ensures { result.parts.items ≡ [] }
+    {
         Starts {
             parts: Vec::new(alloc),
         }
@@ -82,9 +109,13 @@ impl Starts {
     /// already start where they are. An error where memory ran out.
     pub fn of_run(alloc: Global, system: &mut System<'_>, to: Tick) -> Result<Starts, AllocError>
         requires { to ≤ LAST_TICK }
+        ensures count { IfOk result (λ starts. length starts.parts.items ≡ length system.old.config.sections) }
+        ensures run { IfOk result (λ _. system.new ≡ at_tick system.new.tick system.old) }
+        ensures within { IfOk result (λ _. system.new.tick ≤ max system.old.tick to) }
+        ensures still { OnErr result (system.new ≡ system.old) }
     {
         let mut parts = Vec::new(alloc);
-        for _ in 0..system.parts() {
+        for _part in 0..system.parts() {
             parts.push(Numbers::new(alloc)?)?;
         }
         let mut starts = Starts { parts };
@@ -94,7 +125,9 @@ impl Starts {
     }
 
     /// What is seen of the threads of all partitions after a decision.
-    fn look(&mut self, system: &System<'_>) {
+    fn look(&mut self, system: &System<'_>)
+        ensures { length self.new.parts.items ≡ length self.old.parts.items }
+    {
         for i in 0..self.parts.len().min(system.parts()) {
             self.parts[i].look(system, PartId::new(i as u8));
         }
@@ -104,7 +137,11 @@ impl Starts {
     /// calls, with which no thread starts or ends.
     fn watch(&mut self, system: &mut System<'_>, to: Tick)
         requires { to ≤ LAST_TICK }
+        ensures count { length self.new.parts.items ≡ length self.old.parts.items }
+        ensures run { system.new ≡ at_tick system.new.tick system.old }
+        ensures within { system.new.tick ≤ max system.old.tick to }
     {
+        system.states_are_alone();
         let end = to.ticks();
         let mut tick = system.all_stay_until(to).ticks();
         while tick < end {
@@ -116,7 +153,9 @@ impl Starts {
     }
 
     /// Where the last thread of a number of a partition started. None where none has had it.
-    fn start_of(&self, p: PartId, number: usize) -> Option<u32> {
+    fn start_of(&self, p: PartId, number: usize) -> Option<u32>
+        ensures { result ≡ start_of self.now p number }
+    {
         let numbers = self.parts.get(p.index())?;
         let seen = numbers.seen.get(number.saturating_sub(1))?;
         seen.start
@@ -133,14 +172,23 @@ pub struct Names<'a, 's> {
 }
 
 impl<'s> Names<'_, 's> {
-    /// The symbol that begins where the last thread of a number of a partition started. None where none does.
-    pub(crate) fn routine(&self, p: PartId, number: usize) -> Option<Located<'s>> {
-        let start = self.starts.start_of(p, number)?;
-        let located = self.symbols.nearest(start)?;
-        if located.distance == 0 {
-            Some(located)
-        } else {
-            None
-        }
+    /// The symbol that begins where the last thread of a number of a partition started, of those that do the first of
+    /// the text. None where none does.
+    pub(crate) fn routine(&self, p: PartId, number: usize) -> Option<Located<'s>>
+        ensures { option_map (λ n. (n.name.now, n.distance)) result ≡ routine_of self.now p number }
+    {
+        symbol_at(self.symbols, self.starts.start_of(p, number)?)
+    }
+}
+
+/// The symbol that begins at an address, of those that do the first of the text. None where none does.
+fn symbol_at<'s>(symbols: &Symbols<'s>, address: u32) -> Option<Located<'s>>
+    ensures { option_map (λ n. (n.name.now, n.distance)) result ≡ exact symbols.now address }
+{
+    let located = symbols.nearest(address)?;
+    if located.distance == 0 {
+        Some(located)
+    } else {
+        None
     }
 }
