@@ -1,2 +1,3 @@
 pub mod Measures
+pub mod Written
 pub mod Routines

@@ -1,4 +1,11 @@
 pub mod Layout
+pub mod Shapes
 pub mod Words
+pub mod Axis
+pub mod Plans
+pub mod Windows
+pub mod Marks
 pub mod Starts
+pub mod Rows
+pub mod Legend
 pub mod Heads

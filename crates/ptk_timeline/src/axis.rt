@@ -1,17 +1,31 @@
 //! The tick axis.
 
-ghost use Rattle.std.specs.Prelude.{◌<◌};
+ghost use Rattle.std.specs.Prelude.{ℕ, ◌-◌, ◌<◌, OnOk};
+ghost use Rattle.std.specs.Io.KnownBytes.{Appends};
+ghost use Rattle.ptk_timeline.specs.Axis.{axis_text, number_at, number_text};
 
 use crate::layout::{TOP, column_width, place_of};
 use ptk_timeline_segments::Scale;
 use std::io;
 use std::io::Write;
 
-/// Writes the axis above the lanes, with a line down to `end` at each number.
-pub(crate) fn write_axis<W: Write>(out: &mut W, scale: Scale, end: u32) -> io::Result<()> {
+/// Writes the axis above the lanes, with a line down to `end` at each number: the multiples of a step from the first
+/// tick to the tick behind the last.
+pub(crate) fn write_axis<W: Write>(out: &mut W, scale: Scale, end: u32) -> io::Result<()>
+    ensures { OnOk result ((step : ℕ) × (0 < step)
+        × Appends (W.contents out.old) (W.contents out.new) (axis_text scale step (end - (TOP - 8)))) }
+{
     let step = step_of(scale);
-    let first = scale.from() / step + u64::from(scale.from() % step != 0);
     let length = end.saturating_sub(TOP - 8);
+    write_numbers(out, scale, step, length)
+}
+
+/// Writes each number of the axis that is a multiple of a step.
+fn write_numbers<W: Write>(out: &mut W, scale: Scale, step: u64, length: u32) -> io::Result<()>
+    requires { 0 < step }
+    ensures { OnOk result (Appends (W.contents out.old) (W.contents out.new) (axis_text scale step length)) }
+{
+    let first = scale.from().div_ceil(step);
     for k in first..(scale.to() / step).saturating_add(1) {
         write_number(out, scale, k.saturating_mul(step), length)?;
     }
@@ -19,8 +33,16 @@ pub(crate) fn write_axis<W: Write>(out: &mut W, scale: Scale, end: u32) -> io::R
 }
 
 /// Writes a number of the axis and its line.
-fn write_number<W: Write>(out: &mut W, scale: Scale, tick: u64, length: u32) -> io::Result<()> {
-    let x = place_of(scale, tick);
+fn write_number<W: Write>(out: &mut W, scale: Scale, tick: u64, length: u32) -> io::Result<()>
+    ensures { OnOk result (Appends (W.contents out.old) (W.contents out.new) (number_text scale length tick)) }
+{
+    write_number_at(out, place_of(scale, tick), tick, length)
+}
+
+/// Writes a number of the axis at a place, and its line.
+fn write_number_at<W: Write>(out: &mut W, x: u64, tick: u64, length: u32) -> io::Result<()>
+    ensures { OnOk result (Appends (W.contents out.old) (W.contents out.new) (number_at x length tick)) }
+{
     let (from, y) = (TOP - 8, TOP - 12);
     writeln!(out, "<path class=\"grid\" d=\"M{x} {from}v{length}\"/>")?;
     writeln!(

@@ -1,5 +1,9 @@
 //! The legend.
 
+ghost use Rattle.std.specs.Prelude.{OnOk};
+ghost use Rattle.std.specs.Io.KnownBytes.{Appends};
+ghost use Rattle.ptk_timeline.specs.Legend.{narrow_text};
+
 use crate::layout::{LEFT, are_windows_wide};
 use crate::shapes::{Rect, write_rect, write_text};
 use ptk_config::Config;
@@ -47,10 +51,16 @@ pub(crate) fn write_legend<W: Write>(
     write_entries(out, &SHADES, 3, 300, top)?;
     write_entries(out, &MARKS, 2, 540, top.saturating_add(80))?;
     write_columns(out, scale, top.saturating_add(11))?;
+    write_narrow(out, config, scale, top.saturating_add(29))
+}
+
+/// Writes that windows are not drawn, where they are too narrow.
+fn write_narrow<W: Write>(out: &mut W, config: &Config, scale: Scale, y: u32) -> io::Result<()>
+    ensures { OnOk result (Appends (W.contents out.old) (W.contents out.new) (narrow_text config.now scale y)) }
+{
     if are_windows_wide(config, scale) {
         return Ok(());
     }
-    let y = top.saturating_add(29);
     write_text(out, 8, y, "windows are too narrow to draw")
 }
 

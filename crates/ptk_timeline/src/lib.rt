@@ -7,7 +7,12 @@
 //!   over by `next_window`.
 //! - `picture_with` leaves the system at the picture's end (`ran`), and returns `NoTicks` only where `from` is not
 //!   before `to` (`none`), and a picture only where it is (`some`).
-//! - A lane's head is the partition's name with what it is at the end, byte for byte (`write_head`, `lane_head`).
+//! - A tick's place is by how many ticks are before it, within the columns, and no later one is further left
+//!   (`place_of`); a column begins where its first tick does (`column_place`); lanes are one below the other
+//!   (`lanes_end`).
+//! - A thread has the name of the symbol that begins where it started, the first of the text (`Names::routine`).
+//! - A lane's head is the partition's name with what it is at the end, byte for byte (`write_head`, `lane_head`); so are
+//!   the axis, the plan's lines and the marks of a column (`write_axis`, `write_plans`, `write_column`).
 //! - Which other bytes are written is tested: the gate compares four stored pictures (`ptk_main_stored`).
 //!
 //! It opens in any browser, without script or network. A column of the picture is a column of `ptk_timeline_segments`,

@@ -1,6 +1,11 @@
 //! The rows of a lane's threads.
 
+ghost use Rattle.std.specs.Prelude.{◌≡◌, OnOk, flat_map};
+ghost use Rattle.std.specs.Io.KnownBytes.{Appends};
 ghost use Rattle.ptk_timeline_segments.specs.Bars.{IsBar};
+ghost use Rattle.ptk_timeline.specs.Layout.{column_place};
+ghost use Rattle.ptk_timeline.specs.Starts.{routine_of};
+ghost use Rattle.ptk_timeline.specs.Rows.{columns_width, escaped, level_number, line_text, name_text, routine_text, thread_text};
 
 use crate::layout::{BAR, LEFT, ROW, are_steps_wide, column_place, is_shown};
 use crate::names::{Words, class_of};
@@ -33,17 +38,27 @@ struct Stretch {
 
 impl Stretch {
     /// Where it begins, from the left.
-    fn left(self) -> u64 {
+    fn left(self) -> u64
+        ensures { result ≡ column_place self.scale self.first }
+    {
         column_place(self.scale, self.first)
     }
 
     /// Its width.
-    fn width(self) -> u64 {
+    fn width(self) -> u64
+        ensures { result ≡ columns_width self.scale self.first self.behind }
+    {
         column_place(self.scale, self.behind).saturating_sub(self.left())
     }
 
     /// The rectangle over it, of a class, from `y` down so high.
-    fn rect(self, class: &str, y: u32, height: u32) -> Rect<'_> {
+    fn rect(self, class: &str, y: u32, height: u32) -> Rect<'_>
+        ensures class { result.class.now ≡ class.now }
+        ensures left { result.x ≡ column_place self.scale self.first }
+        ensures top { result.y ≡ y }
+        ensures width { result.width ≡ columns_width self.scale self.first self.behind }
+        ensures height { result.height ≡ height }
+    {
         Rect {
             class,
             x: self.left(),
@@ -88,31 +103,49 @@ fn write_name<W: Write>(
     part: PartId,
     number: usize,
     y: u32,
-) -> io::Result<()> {
-    let Some(routine) = names.routine(part, number) else {
-        return Ok(());
-    };
+) -> io::Result<()>
+    ensures { OnOk result (Appends (W.contents out.old) (W.contents out.new) (name_text number y (routine_of names.now part number))) }
+{
+    match names.routine(part, number) {
+        Some(routine) => write_routine(out, routine.name, number, y),
+        None => Ok(()),
+    }
+}
+
+/// Writes the name of the routine at which a thread of a number starts.
+fn write_routine<W: Write>(out: &mut W, name: &[u8], number: usize, y: u32) -> io::Result<()>
+    ensures { OnOk result (Appends (W.contents out.old) (W.contents out.new) (routine_text number y name.now)) }
+{
     write!(
         out,
         "<svg x=\"{NAME_LEFT}\" y=\"{y}\" width=\"{NAME_WIDTH}\" height=\"{BAR}\"><text x=\"0\" y=\"11\">"
     )?;
-    write_escaped(out, routine.name)?;
+    write_escaped(out, name)?;
     write!(out, "<title>thread {number} starts at ")?;
-    write_escaped(out, routine.name)?;
+    write_escaped(out, name)?;
     out.write_all(b"</title></text></svg>\n")
 }
 
 /// Writes the characters of a name, those of markup as entities (XML 2.4).
-fn write_escaped<W: Write>(out: &mut W, name: &[u8]) -> io::Result<()> {
+fn write_escaped<W: Write>(out: &mut W, name: &[u8]) -> io::Result<()>
+    ensures { OnOk result (Appends (W.contents out.old) (W.contents out.new) (flat_map escaped name.now)) }
+{
     for byte in name {
-        match *byte {
-            b'&' => out.write_all(b"&amp;")?,
-            b'<' => out.write_all(b"&lt;")?,
-            b'>' => out.write_all(b"&gt;")?,
-            plain => out.write_all(&[plain])?,
-        }
+        write_character(out, *byte)?;
     }
     Ok(())
+}
+
+/// Writes a character, one of markup as an entity (XML 2.4).
+fn write_character<W: Write>(out: &mut W, byte: u8) -> io::Result<()>
+    ensures { OnOk result (Appends (W.contents out.old) (W.contents out.new) (escaped byte)) }
+{
+    match byte {
+        b'&' => out.write_all(b"&amp;"),
+        b'<' => out.write_all(b"&lt;"),
+        b'>' => out.write_all(b"&gt;"),
+        plain => out.write_all(&[plain]),
+    }
 }
 
 /// Writes the row of a thread, with its number.
@@ -124,15 +157,22 @@ fn write_row<W: Write>(
     marks: &[Marks],
     y: u32,
 ) -> io::Result<()> {
-    let (x, base, number) = (LEFT - 8, y.saturating_add(11), thread.number);
-    writeln!(
-        out,
-        "<text x=\"{x}\" y=\"{base}\" text-anchor=\"end\">thread {number}</text>"
-    )?;
+    write_number(out, thread.number, y)?;
     write_bars(out, scale, thread, row, y)?;
     write_mixed(out, scale, row.cells(), y)?;
     write_raised(out, scale, row.cells(), y)?;
     write_steps(out, scale, row.cells(), marks, y)
+}
+
+/// Writes the number of a row's thread, left of the row.
+fn write_number<W: Write>(out: &mut W, number: usize, y: u32) -> io::Result<()>
+    ensures { OnOk result (Appends (W.contents out.old) (W.contents out.new) (thread_text number y)) }
+{
+    let (x, base) = (LEFT - 8, y.saturating_add(11));
+    writeln!(
+        out,
+        "<text x=\"{x}\" y=\"{base}\" text-anchor=\"end\">thread {number}</text>"
+    )
 }
 
 /// Writes the bars: each all columns in a row that have one look, with its owner and its raised priority.
@@ -213,7 +253,9 @@ fn write_mixed<W: Write>(out: &mut W, scale: Scale, cells: &[Cell], y: u32) -> i
 }
 
 /// Writes the line below a stretch.
-fn write_line<W: Write>(out: &mut W, stretch: Stretch, y: u32) -> io::Result<()> {
+fn write_line<W: Write>(out: &mut W, stretch: Stretch, y: u32) -> io::Result<()>
+    ensures { OnOk result (Appends (W.contents out.old) (W.contents out.new) (line_text stretch.scale stretch.first stretch.behind y)) }
+{
     write_rect(out, &stretch.rect("mixed", y.saturating_add(BAR - 3), 3))
 }
 
@@ -245,6 +287,13 @@ fn write_raised<W: Write>(out: &mut W, scale: Scale, cells: &[Cell], y: u32) -> 
 fn write_level<W: Write>(out: &mut W, level: u8, stretch: Stretch, y: u32) -> io::Result<()> {
     begin_rect(out, &stretch.rect("raised", y.saturating_sub(2), 4))?;
     writeln!(out, "><title>effective priority {level}</title></rect>")?;
+    write_level_number(out, level, stretch, y)
+}
+
+/// Writes a raised priority below its line, where there is room.
+fn write_level_number<W: Write>(out: &mut W, level: u8, stretch: Stretch, y: u32) -> io::Result<()>
+    ensures { OnOk result (Appends (W.contents out.old) (W.contents out.new) (level_number stretch.scale stretch.first stretch.behind y level)) }
+{
     if stretch.width() <= 20 {
         return Ok(());
     }

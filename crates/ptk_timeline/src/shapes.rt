@@ -1,5 +1,9 @@
 //! The elements of a picture.
 
+ghost use Rattle.std.specs.Prelude.{OnOk};
+ghost use Rattle.std.specs.Io.KnownBytes.{Appends};
+ghost use Rattle.ptk_timeline.specs.Shapes.{rect_begin, rect_text, words_text};
+
 use std::io;
 use std::io::Write;
 
@@ -14,13 +18,17 @@ pub(crate) struct Rect<'a> {
 }
 
 /// Writes a rectangle.
-pub(crate) fn write_rect<W: Write>(out: &mut W, rect: &Rect<'_>) -> io::Result<()> {
+pub(crate) fn write_rect<W: Write>(out: &mut W, rect: &Rect<'_>) -> io::Result<()>
+    ensures { OnOk result (Appends (W.contents out.old) (W.contents out.new) (rect_text rect.now.class.now rect.now.x rect.now.y rect.now.width rect.now.height)) }
+{
     begin_rect(out, rect)?;
     out.write_all(b"/>\n")
 }
 
 /// Writes the beginning of a rectangle: all its attributes, without the end of its tag.
-pub(crate) fn begin_rect<W: Write>(out: &mut W, rect: &Rect<'_>) -> io::Result<()> {
+pub(crate) fn begin_rect<W: Write>(out: &mut W, rect: &Rect<'_>) -> io::Result<()>
+    ensures { OnOk result (Appends (W.contents out.old) (W.contents out.new) (rect_begin rect.now.class.now rect.now.x rect.now.y rect.now.width rect.now.height)) }
+{
     let (class, x, y) = (rect.class, rect.x, rect.y);
     write!(out, "<rect class=\"{class}\" x=\"{x}\" y=\"{y}\"")?;
     let (width, height) = (rect.width, rect.height);
@@ -28,6 +36,8 @@ pub(crate) fn begin_rect<W: Write>(out: &mut W, rect: &Rect<'_>) -> io::Result<(
 }
 
 /// Writes words at a place.
-pub(crate) fn write_text<W: Write>(out: &mut W, x: u64, y: u32, words: &str) -> io::Result<()> {
+pub(crate) fn write_text<W: Write>(out: &mut W, x: u64, y: u32, words: &str) -> io::Result<()>
+    ensures { OnOk result (Appends (W.contents out.old) (W.contents out.new) (words_text x y words.now)) }
+{
     writeln!(out, "<text x=\"{x}\" y=\"{y}\">{words}</text>")
 }

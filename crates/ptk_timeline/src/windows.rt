@@ -1,7 +1,9 @@
 //! A partition's windows, and those of the others.
 
-ghost use Rattle.std.specs.Prelude.{◌≤◌};
+ghost use Rattle.std.specs.Prelude.{◌≤◌, OnOk};
+ghost use Rattle.std.specs.Io.KnownBytes.{Appends};
 ghost use Rattle.ptk_words.specs.declared.TheConstants.{LAST_TICK};
+ghost use Rattle.ptk_timeline.specs.Windows.{window_text};
 
 use crate::layout::{HEAD, LEFT, Place, are_windows_wide, place_of, plot_width};
 use crate::shapes::{Rect, begin_rect, write_rect};
@@ -37,7 +39,9 @@ pub(crate) fn write_windows<W: Write>(
 }
 
 /// Writes a window.
-fn write_window<W: Write>(out: &mut W, scale: Scale, window: Span, place: Place) -> io::Result<()> {
+fn write_window<W: Write>(out: &mut W, scale: Scale, window: Span, place: Place) -> io::Result<()>
+    ensures { OnOk result (Appends (W.contents out.old) (W.contents out.new) (window_text scale place window)) }
+{
     let x = place_of(scale, window.from);
     let rect = Rect {
         class: "window",
