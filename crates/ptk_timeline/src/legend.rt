@@ -2,7 +2,9 @@
 
 ghost use Rattle.std.specs.Prelude.{OnOk};
 ghost use Rattle.std.specs.Io.KnownBytes.{Appends};
-ghost use Rattle.ptk_timeline.specs.Legend.{narrow_text};
+ghost use Rattle.ptk_timeline.specs.Layout.{below, right_of};
+ghost use Rattle.ptk_timeline.specs.Shapes.{words_text};
+ghost use Rattle.ptk_timeline.specs.Legend.{columns_text, each_text, entry_text, narrow_text};
 
 use crate::layout::{LEFT, are_windows_wide};
 use crate::shapes::{Rect, write_rect, write_text};
@@ -65,11 +67,20 @@ fn write_narrow<W: Write>(out: &mut W, config: &Config, scale: Scale, y: u32) ->
 }
 
 /// Writes how many ticks a column has.
-fn write_columns<W: Write>(out: &mut W, scale: Scale, y: u32) -> io::Result<()> {
+fn write_columns<W: Write>(out: &mut W, scale: Scale, y: u32) -> io::Result<()>
+    ensures { OnOk result (Appends (W.contents out.old) (W.contents out.new) (columns_text scale y)) }
+{
     let each = scale.each();
     if each == 1 {
         return write_text(out, 8, y, "a column is a tick");
     }
+    write_each(out, each, y)
+}
+
+/// Writes that a column has this many ticks.
+fn write_each<W: Write>(out: &mut W, each: u64, y: u32) -> io::Result<()>
+    ensures { OnOk result (Appends (W.contents out.old) (W.contents out.new) (each_text each y)) }
+{
     writeln!(out, "<text x=\"8\" y=\"{y}\">a column: {each} ticks</text>")
 }
 
@@ -96,7 +107,9 @@ fn write_entries<W: Write>(
 }
 
 /// Writes an entry.
-fn write_entry<W: Write>(out: &mut W, class: &str, words: &str, x: u64, y: u32) -> io::Result<()> {
+fn write_entry<W: Write>(out: &mut W, class: &str, words: &str, x: u64, y: u32) -> io::Result<()>
+    ensures { OnOk result (Appends (W.contents out.old) (W.contents out.new) (entry_text x y class.now words.now)) }
+{
     let rect = Rect {
         class,
         x,
@@ -105,5 +118,12 @@ fn write_entry<W: Write>(out: &mut W, class: &str, words: &str, x: u64, y: u32) 
         height: 12,
     };
     write_rect(out, &rect)?;
+    write_words(out, words, x, y)
+}
+
+/// Writes the words of an entry, right of its rectangle.
+fn write_words<W: Write>(out: &mut W, words: &str, x: u64, y: u32) -> io::Result<()>
+    ensures { OnOk result (Appends (W.contents out.old) (W.contents out.new) (words_text (right_of x 30) (below y 10) words.now)) }
+{
     write_text(out, x.saturating_add(30), y.saturating_add(10), words)
 }

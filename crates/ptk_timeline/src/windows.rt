@@ -3,7 +3,7 @@
 ghost use Rattle.std.specs.Prelude.{◌≤◌, OnOk};
 ghost use Rattle.std.specs.Io.KnownBytes.{Appends};
 ghost use Rattle.ptk_words.specs.declared.TheConstants.{LAST_TICK};
-ghost use Rattle.ptk_timeline.specs.Windows.{window_text};
+ghost use Rattle.ptk_timeline.specs.Windows.{gap_text, others_text, window_text};
 
 use crate::layout::{HEAD, LEFT, Place, are_windows_wide, place_of, plot_width};
 use crate::shapes::{Rect, begin_rect, write_rect};
@@ -84,7 +84,9 @@ fn write_other<W: Write>(
     from: u64,
     to: u64,
     place: Place,
-) -> io::Result<()> {
+) -> io::Result<()>
+    ensures { OnOk result (Appends (W.contents out.old) (W.contents out.new) (others_text scale name.now place from to)) }
+{
     let x = place_of(scale, from);
     let rect = Rect {
         class: "others",
@@ -96,7 +98,20 @@ fn write_other<W: Write>(
     if rect.width == 0 {
         return Ok(());
     }
-    begin_rect(out, &rect)?;
+    write_gap(out, &rect, name, from, to)
+}
+
+/// Writes a rectangle over ticks that are not the partition's, with a text.
+fn write_gap<W: Write>(
+    out: &mut W,
+    rect: &Rect<'_>,
+    name: &str,
+    from: u64,
+    to: u64,
+) -> io::Result<()>
+    ensures { OnOk result (Appends (W.contents out.old) (W.contents out.new) (gap_text rect.now.class.now rect.now.x rect.now.y rect.now.width rect.now.height name.now from to)) }
+{
+    begin_rect(out, rect)?;
     writeln!(
         out,
         "><title>no window of {name}, ticks {from} to {to}</title></rect>"
