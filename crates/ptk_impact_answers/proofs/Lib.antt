@@ -1,2 +1,4 @@
+pub mod Counting
+pub mod HowMany
 pub mod Names
 pub mod Renaming

@@ -1,23 +1,28 @@
 //! The answer to the question for an impact.
 
-ghost use Rattle.std.specs.Prelude.{◌≡◌, ◌≢◌, ◌<◌, ◌↔◌, Ok, None, Some, IfErr, IfOk, IfSome, IsOkAnd, MatchResult, OnOk, length, option_map};
+ghost use Rattle.std.specs.Prelude.{◌≡◌, ◌≢◌, ◌<◌, ◌↔◌, ◌&&◌, Ok, None, Some, IfErr, IfOk, IfSome, IsOkAnd, MatchResult, OnOk, is_none, length, option_map};
+ghost use Rattle.std.specs.Option.{option_copied};
+ghost use Rattle.ptk_impact.specs.Impact.{IsImpact};
+ghost use Rattle.ptk_impact.specs.World.{section_at};
 ghost use Rattle.ptk_main_faults.specs.Told.{told};
+ghost use Rattle.ptk_impact_answers.specs.Comparisons.{refusal_if_changed};
 ghost use Rattle.ptk_impact_answers.specs.Counts.{IsClear};
 ghost use Rattle.ptk_impact_answers.specs.Matching.{is_asked, place_after, place_before};
 ghost use Rattle.ptk_impact_answers.specs.Refusals.{refusal, unknown_asked, unknown_in, unknown_name, unknown_renamed};
 ghost use Rattle.ptk_impact_answers.specs.Renaming.{renames_of};
-ghost use Rattle.ptk_impact_answers.specs.SameRuns.{AreSameRuns, AreSeenAlike, AreStillThere, IsStillThereIfAsked, WasSeenAlikeIfAsked, WereSeenAlike};
+ghost use Rattle.ptk_impact_answers.specs.SameRuns.{AreSameRuns, AreSeenAlike, AreStillThere, IsStillThereIfAsked, WasSeenAlikeIfAsked, WereSeenAlike, subject_at};
+ghost use Rattle.ptk_impact_answers.specs.Tallies.{AreCounts, CountsAllGone, CountsAllNew, CountsBoth, CountsGone, CountsNew};
 
 use crate::comparison::{Comparison, Pair};
 use crate::form::{Form, put_alone, put_beginning, put_comparison, put_counts};
-use crate::refusal::refusal_of;
+use crate::refusal::refusal_if_changed;
 use crate::release::Release;
 use crate::renames::{Rename, Renames};
 use crate::tally::Tally;
 use ptk_impact::Impact;
 use ptk_main_faults::Fault;
 use ptk_main_runs::PutFault;
-use std::alloc::Global;
+use std::alloc::{AllocError, Global};
 use std::io::Write;
 
 /// What is asked for.
@@ -42,9 +47,10 @@ impl<'a> Question<'a> {
 }
 
 /// Writes what stands between two configurations: a line for each partition of the new one that is asked for, by name,
-/// with what differs beneath, then a line for each that is gone, and a last line that counts. Gives the counts. They
-/// have no changed, new or gone partition if and only if each that is asked for was and is there, and boot sees the
-/// same of both but for the trace's length: it is the same run.
+/// with what differs beneath, then a line for each that is gone, and a last line that counts. Gives the counts: how many
+/// of these partitions are unchanged, unchanged but for the trace kept, changed, new and gone. They have no changed, new
+/// or gone partition if and only if each that is asked for was and is there, and boot sees the same of both but for the
+/// trace's length: it is the same run.
 ///
 /// `Fault::MissingFile` names the first image that is not there, those of the old configuration first; else
 /// `Fault::NoPartition` what is no rename, a renamed one that one of them has not, or an asked name that neither
@@ -58,6 +64,8 @@ pub fn impact_with<'a, 'f, W: Write>(
 ) -> Result<Tally, Fault<'a>>
     ensures same { IfOk result (λ tally. IsOkAnd (renames_of question.entry.rename) (λ renames.
         IsClear tally ↔ AreSameRuns renames question.entry.partition old.entry new.entry)) }
+    ensures counted { IfOk result (λ tally. IsOkAnd (renames_of question.entry.rename) (λ renames.
+        AreCounts renames question.entry.partition old.entry new.entry tally)) }
     ensures refused { MatchResult result
         (λ _. refusal old.entry new.entry question.entry ≡ None)
         (λ fault. fault ≢ Fault.NoMemory → fault ≢ Fault.WriteFailed → refusal old.entry new.entry question.entry ≡ Some (told fault)) }
@@ -78,6 +86,8 @@ pub fn impact_json_with<'a, 'f, W: Write>(
 ) -> Result<Tally, Fault<'a>>
     ensures same { IfOk result (λ tally. IsOkAnd (renames_of question.entry.rename) (λ renames.
         IsClear tally ↔ AreSameRuns renames question.entry.partition old.entry new.entry)) }
+    ensures counted { IfOk result (λ tally. IsOkAnd (renames_of question.entry.rename) (λ renames.
+        AreCounts renames question.entry.partition old.entry new.entry tally)) }
     ensures refused { MatchResult result
         (λ _. refusal old.entry new.entry question.entry ≡ None)
         (λ fault. fault ≢ Fault.NoMemory → fault ≢ Fault.WriteFailed → refusal old.entry new.entry question.entry ≡ Some (told fault)) }
@@ -98,6 +108,8 @@ fn impact_in<'a, 'f, W: Write>(
 ) -> Result<Tally, Fault<'a>>
     ensures same { IfOk result (λ tally. IsOkAnd (renames_of question.entry.rename) (λ renames.
         IsClear tally ↔ AreSameRuns renames question.entry.partition old.entry new.entry)) }
+    ensures counted { IfOk result (λ tally. IsOkAnd (renames_of question.entry.rename) (λ renames.
+        AreCounts renames question.entry.partition old.entry new.entry tally)) }
     ensures refused { MatchResult result
         (λ _. refusal old.entry new.entry question.entry ≡ None)
         (λ fault. fault ≢ Fault.NoMemory → fault ≢ Fault.WriteFailed → refusal old.entry new.entry question.entry ≡ Some (told fault)) }
@@ -206,8 +218,11 @@ impl<'a, 'f> Releases<'a, 'f> {
         question: &Question<'_>,
         out: &mut W,
     ) -> Result<Tally, PutFault>
-        ensures { IfOk result (λ tally. IsClear tally ↔ AreSameRuns self.now.renames question.now.partition self.now.old self.now.new) }
+        ensures same { IfOk result (λ tally. IsClear tally ↔ AreSameRuns self.now.renames question.now.partition self.now.old self.now.new) }
+        ensures counted { IfOk result (AreCounts self.now.renames question.now.partition self.now.old self.now.new) }
     {
+        let _new_sections = self.new.sections();
+        let _old_sections = self.old.sections();
         let mut tally = Tally::new();
         put_beginning(form, out)?;
         self.put_all_new(form, alloc, question, &mut tally, out)?;
@@ -225,8 +240,9 @@ impl<'a, 'f> Releases<'a, 'f> {
         tally: &mut Tally,
         out: &mut W,
     ) -> Result<(), PutFault>
-        ensures { OnOk result (IsClear tally.new ↔ (IsClear tally.old
+        ensures same { OnOk result (IsClear tally.new ↔ (IsClear tally.old
             × WereSeenAlike self.now.renames question.now.partition self.now.old self.now.new (length self.now.new.config.now.sections))) }
+        ensures counted { OnOk result (CountsAllNew self.now.renames question.now.partition self.now.old self.now.new tally.old tally.new) }
     {
         for place in 0..self.new.sections().len() {
             self.put_new(form, alloc, place, question, tally, out)?;
@@ -243,8 +259,9 @@ impl<'a, 'f> Releases<'a, 'f> {
         tally: &mut Tally,
         out: &mut W,
     ) -> Result<(), PutFault>
-        ensures { OnOk result (IsClear tally.new ↔ (IsClear tally.old
+        ensures same { OnOk result (IsClear tally.new ↔ (IsClear tally.old
             × AreStillThere self.now.renames question.now.partition self.now.old self.now.new (length self.now.old.config.now.sections))) }
+        ensures counted { OnOk result (CountsAllGone self.now.renames question.now.partition self.now.old self.now.new tally.old tally.new) }
     {
         for place in 0..self.old.sections().len() {
             self.put_gone(form, alloc, place, question, tally, out)?;
@@ -263,10 +280,11 @@ impl<'a, 'f> Releases<'a, 'f> {
         out: &mut W,
     ) -> Result<(), PutFault>
         requires { place < length self.now.new.config.now.sections }
-        ensures { OnOk result (IsClear tally.new ↔ (IsClear tally.old
+        ensures same { OnOk result (IsClear tally.new ↔ (IsClear tally.old
             × WasSeenAlikeIfAsked self.now.renames question.now.partition self.now.old self.now.new place)) }
+        ensures counted { OnOk result (CountsNew self.now.renames question.now.partition self.now.old self.now.new place tally.old tally.new) }
     {
-        let name = self.new.sections()[place].name();
+        let name = self.new.name_at(place);
         if !question.is_for(name) {
             return Ok(());
         }
@@ -312,38 +330,55 @@ impl<'a, 'f> Releases<'a, 'f> {
     ) -> Result<(), PutFault>
         requires old { places.old < length self.now.old.config.now.sections }
         requires new { places.new < length self.now.new.config.now.sections }
-        ensures { OnOk result (IsClear tally.new ↔ (IsClear tally.old × AreSeenAlike self.now.old places.old self.now.new places.new)) }
+        ensures same { OnOk result (IsClear tally.new ↔ (IsClear tally.old × AreSeenAlike self.now.old places.old self.now.new places.new)) }
+        ensures counted { OnOk result (CountsBoth self.now.old places.old self.now.new places.new tally.old tally.new) }
     {
-        let old = self.old.subject(places.old);
-        let new = self.new.subject(places.new);
-        let impact = Impact::between(&old, &new);
-        let limits = Pair {
-            old: old.section().limits(),
-            new: new.section().limits(),
-        };
-        let refusals = match impact {
-            Impact::Changed(_) => Pair {
-                old: refusal_of(alloc, limits.old, old.image())?,
-                new: refusal_of(alloc, limits.new, new.image())?,
-            },
-            Impact::Unchanged | Impact::UnchangedButForTrace(_) => Pair {
-                old: None,
-                new: None,
-            },
-        };
-        let comparison = Comparison {
-            old_name: old.section().name(),
-            new_name: new.section().name(),
-            old_file: old.section().image(),
-            new_file: new.section().image(),
-            places,
-            limits,
-            impact,
-            refusals,
+        let Ok(comparison) = self.comparison(alloc, places) else {
+            return Err(PutFault::Memory);
         };
         put_comparison(form, alloc, tally, &comparison, out)?;
         tally.count(&comparison.impact);
         Ok(())
+    }
+
+    /// What stands between the old and the new partition at these places. An error where memory ran out.
+    fn comparison(&self, alloc: Global, places: Pair<usize>) -> Result<Comparison<'_>, AllocError>
+        requires old { places.old < length self.now.old.config.now.sections }
+        requires new { places.new < length self.now.new.config.now.sections }
+        ensures old_name { IfOk result (λ comparison. comparison.old_name.now ≡ (section_at self.now.old.config.now places.old).name) }
+        ensures new_name { IfOk result (λ comparison. comparison.new_name.now ≡ (section_at self.now.new.config.now places.new).name) }
+        ensures old_file { IfOk result (λ comparison. option_copied comparison.old_file ≡ (section_at self.now.old.config.now places.old).image) }
+        ensures new_file { IfOk result (λ comparison. option_copied comparison.new_file ≡ (section_at self.now.new.config.now places.new).image) }
+        ensures its_places { IfOk result (λ comparison. comparison.places ≡ places) }
+        ensures old_limits { IfOk result (λ comparison. comparison.limits.old ≡ (section_at self.now.old.config.now places.old).limits) }
+        ensures new_limits { IfOk result (λ comparison. comparison.limits.new ≡ (section_at self.now.new.config.now places.new).limits) }
+        ensures impact { IfOk result (λ comparison. IsImpact (subject_at self.now.old places.old) (subject_at self.now.new places.new) comparison.impact) }
+        ensures old_refusal { IfOk result (λ comparison. comparison.refusals.old ≡ refusal_if_changed comparison.impact (subject_at self.now.old places.old)) }
+        ensures new_refusal { IfOk result (λ comparison. comparison.refusals.new ≡ refusal_if_changed comparison.impact (subject_at self.now.new places.new)) }
+    {
+        let old = self.old.subject(places.old);
+        let new = self.new.subject(places.new);
+        let impact = Impact::between(&old, &new);
+        let old_refusal = refusal_if_changed(alloc, &impact, &old)?;
+        let new_refusal = refusal_if_changed(alloc, &impact, &new)?;
+        let before = old.section();
+        let after = new.section();
+        Ok(Comparison {
+            old_name: before.name(),
+            new_name: after.name(),
+            old_file: before.image(),
+            new_file: after.image(),
+            places,
+            limits: Pair {
+                old: before.limits(),
+                new: after.limits(),
+            },
+            impact,
+            refusals: Pair {
+                old: old_refusal,
+                new: new_refusal,
+            },
+        })
     }
 
     /// Writes that the old partition at this place is gone, if it is asked for and is.
@@ -357,14 +392,23 @@ impl<'a, 'f> Releases<'a, 'f> {
         out: &mut W,
     ) -> Result<(), PutFault>
         requires { place < length self.now.old.config.now.sections }
-        ensures { OnOk result (IsClear tally.new ↔ (IsClear tally.old
+        ensures same { OnOk result (IsClear tally.new ↔ (IsClear tally.old
             × IsStillThereIfAsked self.now.renames question.now.partition self.now.old self.now.new place)) }
+        ensures counted { OnOk result (CountsGone self.now.renames question.now.partition self.now.old self.now.new place tally.old tally.new) }
     {
-        let name = self.old.sections()[place].name();
-        if question.is_for(name) && self.after(name).is_none() {
-            put_alone(form, alloc, tally, name, "gone", out)?;
-            tally.count_removed();
+        let name = self.old.name_at(place);
+        if !self.is_gone(name, question) {
+            return Ok(());
         }
+        put_alone(form, alloc, tally, name, "gone", out)?;
+        tally.count_removed();
         Ok(())
+    }
+
+    /// Whether the old partition of this name is asked for and is gone.
+    fn is_gone(&self, name: &str, question: &Question<'_>) -> bool
+        ensures { result ≡ (is_asked question.now.partition name.now && is_none (place_after self.now.renames self.now.new.config.now name.now)) }
+    {
+        question.is_for(name) && self.after(name).is_none()
     }
 }

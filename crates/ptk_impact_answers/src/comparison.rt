@@ -1,5 +1,10 @@
 //! What stands between the old and the new partition.
 
+ghost use Rattle.std.specs.Prelude.{◌≡◌, ◌≢◌, ◌↔◌, ◌||◌, ◌==◌, IsTrue, is_some, map, not, option_map};
+ghost use Rattle.std.specs.Option.{option_copied};
+ghost use Rattle.std.specs.Str.{bytes_eq};
+ghost use Rattle.ptk_impact_answers.specs.Comparisons.{by_key, impact_words, other_files};
+
 use ptk_impact::{Impact, LimitChange, LimitChanges};
 use ptk_words::{ImageFault, Limits};
 
@@ -33,12 +38,17 @@ pub(crate) struct Comparison<'a> {
 
 impl<'a> Comparison<'a> {
     /// Whether the names differ.
-    pub(crate) fn has_other_name(&self) -> bool {
+    pub(crate) fn has_other_name(&self) -> bool
+        ensures { result ≡ not (bytes_eq self.now.old_name.now self.now.new_name.now) }
+    {
         self.old_name != self.new_name
     }
 
     /// The names of the files of both images, None where one has no file or the names are the same.
-    pub(crate) fn other_files(&self) -> Option<Pair<&'a str>> {
+    pub(crate) fn other_files(&self) -> Option<Pair<&'a str>>
+        ensures { option_map (λ files. (files.old.now, files.new.now)) result
+            ≡ other_files (option_copied self.now.old_file) (option_copied self.now.new_file) }
+    {
         match (self.old_file, self.new_file) {
             (Some(old), Some(new)) if old != new => Some(Pair { old, new }),
             (Some(_), Some(_)) | (Some(_), None) | (None, _) => None,
@@ -46,23 +56,31 @@ impl<'a> Comparison<'a> {
     }
 
     /// Whether a limit differs.
-    pub(crate) fn has_other_limits(&self) -> bool {
+    pub(crate) fn has_other_limits(&self) -> bool
+        ensures { IsTrue result ↔ (self.now.limits.old ≢ self.now.limits.new) }
+    {
         self.limits.old != self.limits.new
     }
 
     /// Whether the places differ.
-    pub(crate) fn has_other_place(&self) -> bool {
+    pub(crate) fn has_other_place(&self) -> bool
+        ensures { result ≡ not (self.now.places.old == self.now.places.new) }
+    {
         self.places.old != self.places.new
     }
 
     /// Whether one of the images is refused.
-    pub(crate) fn is_refused(&self) -> bool {
+    pub(crate) fn is_refused(&self) -> bool
+        ensures { result ≡ (is_some self.now.refusals.old || is_some self.now.refusals.new) }
+    {
         self.refusals.old.is_some() || self.refusals.new.is_some()
     }
 }
 
 /// What is said of an impact.
-pub(crate) fn impact_words(impact: &Impact) -> &'static str {
+pub(crate) fn impact_words(impact: &Impact) -> &'static str
+    ensures { result.now ≡ impact_words impact.now }
+{
     match impact {
         Impact::Unchanged => "unchanged",
         Impact::UnchangedButForTrace(_) => "unchanged but for the trace kept",
@@ -71,7 +89,9 @@ pub(crate) fn impact_words(impact: &Impact) -> &'static str {
 }
 
 /// What differs of each limit, by its key in the configuration and in the order of the keys there.
-pub(crate) fn by_key(limits: &LimitChanges) -> [(&'static str, Option<LimitChange>); 10] {
+pub(crate) fn by_key(limits: &LimitChanges) -> [(&'static str, Option<LimitChange>); 10]
+    ensures { map (λ limit. (limit.0.now, limit.1)) result ≡ by_key limits.now }
+{
     [
         ("memory", limits.memory),
         ("threads", limits.threads),

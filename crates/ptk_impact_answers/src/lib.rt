@@ -3,9 +3,12 @@
 //! What the program writes for `impact` over two configurations and their files already read, as lines or as JSON, on
 //! any writer.
 //!
-//! - The counts of `impact_with` or `impact_json_with` have no changed, new or gone partition if and only if each
-//!   partition that is asked for, of either configuration, was and is there by its name and the renames, and boot sees
-//!   the same of both but for the trace's length (`same`).
+//! - The counts of `impact_with` or `impact_json_with` are how many of the partitions that are asked for are unchanged,
+//!   unchanged but for the trace kept, changed, new and gone, by the names, the renames and what boot sees of both
+//!   (`counted`).
+//! - They have no changed, new or gone partition if and only if each partition that is asked for, of either
+//!   configuration, was and is there by its name and the renames, and boot sees the same of both but for the trace's
+//!   length (`same`).
 //! - The renames are those that the text of the question states, none without a text.
 //! - A question is refused for the first missing image, else for the first name of no partition (`refused`,
 //!   `accepted`), and then nothing is written (`silent`).

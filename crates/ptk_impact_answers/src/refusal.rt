@@ -2,15 +2,34 @@
 
 ghost use Rattle.std.specs.Prelude.{◌≡◌, IfOk, option_map};
 ghost use Rattle.ptk_words_model.specs.Run.{fits};
+ghost use Rattle.ptk_impact.specs.Views.{IsPartition};
 ghost use Rattle.ptk_main_runs.specs.Refused.{refusal_of};
+ghost use Rattle.ptk_impact_answers.specs.Comparisons.{refusal_if_changed};
 
 use ptk_image::{Image, read_image};
+use ptk_impact::{Impact, Subject};
 use ptk_words::{ImageFault, Limits};
 use std::alloc::{AllocError, Global};
 
+/// Why boot refuses the image of a partition, None where it does not or the partition is not changed. An error where
+/// memory ran out.
+pub(crate) fn refusal_if_changed(
+    alloc: Global,
+    impact: &Impact,
+    subject: &Subject<'_>,
+) -> Result<Option<ImageFault>, AllocError>
+    requires { IsPartition subject.now }
+    ensures { IfOk result (λ refusal. refusal ≡ refusal_if_changed impact.now subject.now) }
+{
+    match impact {
+        Impact::Changed(_) => refusal_of(alloc, subject.section().limits(), subject.image()),
+        Impact::Unchanged | Impact::UnchangedButForTrace(_) => Ok(None),
+    }
+}
+
 /// Why boot refuses these bytes as the image of a section with these numbers, None where it accepts them or there are
 /// none. An error where memory ran out.
-pub(crate) fn refusal_of(
+fn refusal_of(
     alloc: Global,
     limits: Limits,
     bytes: Option<&[u8]>,

@@ -1,6 +1,7 @@
 //! A configuration with its files.
 
 ghost use Rattle.std.specs.Prelude.{◌≡◌, ◌<◌, ◌≤◌, None, IfSome, length, option_map};
+ghost use Rattle.ptk_impact.specs.World.{section_at};
 ghost use Rattle.ptk_main_runs.specs.Missing.{first_missing, is_missing};
 ghost use Rattle.ptk_main_runs.specs.Parts.{part_named};
 ghost use Rattle.ptk_impact_answers.specs.Refusals.{missing_image};
@@ -29,6 +30,15 @@ impl<'a, 'f> Release<'a, 'f> {
     {
         let config = self.config;
         config.sections()
+    }
+
+    /// The name of the section at this place.
+    pub(crate) fn name_at(&self, place: usize) -> &'a str
+        requires { place < length self.now.config.now.sections }
+        ensures { result.now ≡ (section_at self.now.config.now place).name }
+    {
+        let sections = self.sections();
+        sections[place].name()
     }
 
     /// The place of the section of this name, None where no section has it.

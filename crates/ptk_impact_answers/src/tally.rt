@@ -1,7 +1,7 @@
 //! How many partitions have which impact.
 
 ghost use Rattle.std.specs.Prelude.{◌≡◌, ◌↔◌, IsTrue};
-ghost use Rattle.ptk_impact_answers.specs.Counts.{IsClear, IsNoChange};
+ghost use Rattle.ptk_impact_answers.specs.Counts.{IsClear, IsNoChange, counted, is_empty, no_counts, with_added, with_removed};
 
 use ptk_impact::Impact;
 use std::fmt;
@@ -24,7 +24,7 @@ pub struct Tally {
 impl Tally {
     /// None yet.
     pub(crate) fn new() -> Tally
-        ensures { result ≡ record { unchanged = 0; but_for_trace = 0; changed = 0; added = 0; removed = 0 } }
+        ensures { result ≡ no_counts }
     {
         Tally {
             unchanged: 0,
@@ -36,13 +36,20 @@ impl Tally {
     }
 
     /// Whether none is counted.
-    pub(crate) fn is_empty(&self) -> bool {
-        self.is_same_run() && self.unchanged == 0 && self.but_for_trace == 0
+    pub(crate) fn is_empty(&self) -> bool
+        ensures { result ≡ is_empty self.now }
+    {
+        self.unchanged == 0
+            && self.but_for_trace == 0
+            && self.changed == 0
+            && self.added == 0
+            && self.removed == 0
     }
 
     /// Counts a partition that both configurations have.
     pub(crate) fn count(&mut self, impact: &Impact)
-        ensures { IsClear self.new ↔ (IsClear self.old × IsNoChange impact.now) }
+        ensures counted { self.new ≡ counted impact.now self.old }
+        ensures same { IsClear self.new ↔ (IsClear self.old × IsNoChange impact.now) }
     {
         match impact {
             Impact::Unchanged => self.unchanged = self.unchanged.saturating_add(1),
@@ -55,14 +62,16 @@ impl Tally {
 
     /// Counts a partition that only the new configuration has.
     pub(crate) fn count_added(&mut self)
-        ensures { ¬ IsClear self.new }
+        ensures counted { self.new ≡ with_added self.old }
+        ensures other { ¬ IsClear self.new }
     {
         self.added = self.added.saturating_add(1);
     }
 
     /// Counts a partition that only the old configuration has.
     pub(crate) fn count_removed(&mut self)
-        ensures { ¬ IsClear self.new }
+        ensures counted { self.new ≡ with_removed self.old }
+        ensures other { ¬ IsClear self.new }
     {
         self.removed = self.removed.saturating_add(1);
     }

@@ -1,0 +1,20 @@
+use Rattle.std.proofs.Common.{refl}
+use Rattle.std.proofs.lemmas.Result.{on_ok_weaker}
+use Rattle.ptk_impact_answers.proofs.Counting.{added_counted, both_counted, unasked_counted}
+use Rattle.ptk_impact_answers.proofs.answer.Releases.put_new.Goals as goal
+
+pub returns-then-not-is_for-clause-counted : goal.returns-then-not-is_for-clause-counted
+returns-then-not-is_for-clause-counted g c =
+    unasked_counted c.args.self.now.renames c.args.question.now.partition c.args.self.now.old c.args.self.now.new c.args.place c.name_at-name.result.now
+    c.is_for.result c.args.tally.now c.args.tally.now c.name_at-name.ensures c.is_for.ensures c.if-not-is_for.true refl
+
+pub returns-in-Some-clause-counted : goal.returns-in-Some-clause-counted
+returns-in-Some-clause-counted g c = on_ok_weaker c.put_both.result
+    (both_counted c.args.self.now.renames c.args.question.now.partition c.args.self.now.old c.args.self.now.new c.args.place c.name_at-name.result.now
+    c.is_for.result c.args.tally.now c.put_both.new.tally c.name_at-name.ensures c.is_for.ensures c.in-Some.before c.if-not-is_for.false c.in-Some.ensures.place)
+    c.put_both.ensures.counted
+
+pub returns-in_ok-put_alone-in-None-clause-counted : goal.returns-in_ok-put_alone-in-None-clause-counted
+returns-in_ok-put_alone-in-None-clause-counted g c =
+    added_counted c.args.self.now.renames c.args.question.now.partition c.args.self.now.old c.args.self.now.new c.args.place c.name_at-name.result.now
+    c.is_for.result c.args.tally.now c.count_added.new.self c.name_at-name.ensures c.is_for.ensures c.if-not-is_for.false c.in-None.ensures.place c.count_added.ensures.counted
