@@ -2,3 +2,5 @@ pub mod Counting
 pub mod HowMany
 pub mod Names
 pub mod Renaming
+pub mod Sent
+pub mod Writing

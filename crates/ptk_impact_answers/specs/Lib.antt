@@ -1,7 +1,9 @@
 pub mod Comparisons
 pub mod Counts
+pub mod Documents
 pub mod Matching
 pub mod Renaming
 pub mod SameRuns
 pub mod Tallies
+pub mod Written
 pub mod Refusals

@@ -1,5 +1,9 @@
 //! The forms of an answer.
 
+ghost use Rattle.std.specs.Prelude.{◌≡◌, ◌++◌, OnOk, string_bytes};
+ghost use Rattle.std.specs.Io.KnownBytes.{Appends};
+ghost use Rattle.ptk_impact_answers.specs.Documents.{IsAlone, IsCompared, PutsObject, beginning_text, comma_behind, counts_text};
+
 use crate::comparison::Comparison;
 use crate::document::{json_of, json_of_alone};
 use crate::lines::put_lines;
@@ -19,7 +23,9 @@ pub(crate) enum Form {
 }
 
 /// Writes what stands before the partitions.
-pub(crate) fn put_beginning<W: Write>(form: Form, out: &mut W) -> io::Result<()> {
+pub(crate) fn put_beginning<W: Write>(form: Form, out: &mut W) -> io::Result<()>
+    ensures { OnOk result (form ≡ Form.Json → Appends (W.contents out.old) (W.contents out.new) beginning_text) }
+{
     match form {
         Form::Lines => Ok(()),
         Form::Json => out.write_all(b"{\"format\":\"ptk impact 1\",\"partitions\":["),
@@ -33,11 +39,29 @@ pub(crate) fn put_comparison<W: Write>(
     tally: &Tally,
     comparison: &Comparison<'_>,
     out: &mut W,
-) -> Result<(), PutFault> {
+) -> Result<(), PutFault>
+    ensures { OnOk result (form ≡ Form.Json → PutsObject (IsCompared comparison.now) tally.now (W.contents out.old) (W.contents out.new)) }
+{
     match form {
-        Form::Lines => put_lines(comparison, out)?,
-        Form::Json => put_member(tally, &json_of(alloc, comparison)?, out)?,
+        Form::Lines => {
+            put_lines(comparison, out)?;
+            Ok(())
+        }
+        Form::Json => put_object_of_both(alloc, tally, comparison, out),
     }
+}
+
+/// Writes the JSON object of a partition that both configurations have.
+fn put_object_of_both<W: Write>(
+    alloc: Global,
+    tally: &Tally,
+    comparison: &Comparison<'_>,
+    out: &mut W,
+) -> Result<(), PutFault>
+    ensures { OnOk result (PutsObject (IsCompared comparison.now) tally.now (W.contents out.old) (W.contents out.new)) }
+{
+    let text = json_of(alloc, comparison)?;
+    put_member(tally, &text, out)?;
     Ok(())
 }
 
@@ -49,35 +73,70 @@ pub(crate) fn put_alone<W: Write>(
     name: &str,
     answer: &'static str,
     out: &mut W,
-) -> Result<(), PutFault> {
+) -> Result<(), PutFault>
+    ensures { OnOk result (form ≡ Form.Json → PutsObject (IsAlone name.now answer.now) tally.now (W.contents out.old) (W.contents out.new)) }
+{
     match form {
-        Form::Lines => writeln!(out, "{name}: {answer}")?,
-        Form::Json => put_member(tally, &json_of_alone(alloc, name, answer)?, out)?,
+        Form::Lines => {
+            writeln!(out, "{name}: {answer}")?;
+            Ok(())
+        }
+        Form::Json => put_object_of_one(alloc, tally, name, answer, out),
     }
+}
+
+/// Writes the JSON object of a partition that one configuration has.
+fn put_object_of_one<W: Write>(
+    alloc: Global,
+    tally: &Tally,
+    name: &str,
+    answer: &'static str,
+    out: &mut W,
+) -> Result<(), PutFault>
+    ensures { OnOk result (PutsObject (IsAlone name.now answer.now) tally.now (W.contents out.old) (W.contents out.new)) }
+{
+    let text = json_of_alone(alloc, name, answer)?;
+    put_member(tally, &text, out)?;
     Ok(())
 }
 
 /// Writes a member of the array of partitions, with a comma before it where one is counted already.
-fn put_member<W: Write>(tally: &Tally, text: &String, out: &mut W) -> io::Result<()> {
-    let comma = if tally.is_empty() { "" } else { "," };
+fn put_member<W: Write>(tally: &Tally, text: &String, out: &mut W) -> io::Result<()>
+    ensures { OnOk result (Appends (W.contents out.old) (W.contents out.new) (comma_behind tally.now ++ string_bytes text.now)) }
+{
+    let comma = comma_behind(tally);
     write!(out, "{comma}{text}")
 }
 
+/// What stands before a member: a comma where one is counted already.
+fn comma_behind(tally: &Tally) -> &'static str
+    ensures { result.now ≡ comma_behind tally.now }
+{
+    if tally.is_empty() { "" } else { "," }
+}
+
 /// Writes the counts, behind the partitions.
-pub(crate) fn put_counts<W: Write>(form: Form, tally: &Tally, out: &mut W) -> io::Result<()> {
+pub(crate) fn put_counts<W: Write>(form: Form, tally: &Tally, out: &mut W) -> io::Result<()>
+    ensures { OnOk result (form ≡ Form.Json → Appends (W.contents out.old) (W.contents out.new) (counts_text tally.now)) }
+{
     match form {
         Form::Lines => writeln!(out, "{tally}"),
-        Form::Json => {
-            let (unchanged, but_for_trace) = (tally.unchanged, tally.but_for_trace);
-            write!(
-                out,
-                "],\"unchanged\":{unchanged},\"unchanged_but_for_trace\":{but_for_trace}"
-            )?;
-            let (changed, added, removed) = (tally.changed, tally.added, tally.removed);
-            writeln!(
-                out,
-                ",\"changed\":{changed},\"new\":{added},\"gone\":{removed}}}"
-            )
-        }
+        Form::Json => put_end(tally, out),
     }
+}
+
+/// Writes what is behind the partitions in the JSON object: the counts.
+fn put_end<W: Write>(tally: &Tally, out: &mut W) -> io::Result<()>
+    ensures { OnOk result (Appends (W.contents out.old) (W.contents out.new) (counts_text tally.now)) }
+{
+    let (unchanged, but_for_trace) = (tally.unchanged, tally.but_for_trace);
+    write!(
+        out,
+        "],\"unchanged\":{unchanged},\"unchanged_but_for_trace\":{but_for_trace}"
+    )?;
+    let (changed, added, removed) = (tally.changed, tally.added, tally.removed);
+    writeln!(
+        out,
+        ",\"changed\":{changed},\"new\":{added},\"gone\":{removed}}}"
+    )
 }

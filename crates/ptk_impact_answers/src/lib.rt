@@ -9,16 +9,18 @@
 //! - They have no changed, new or gone partition if and only if each partition that is asked for, of either
 //!   configuration, was and is there by its name and the renames, and boot sees the same of both but for the trace's
 //!   length (`same`).
+//! - `impact_json_with` writes one object: of each partition that is counted its name, its answer and what differs, in
+//!   their order, and then the counts (`json`).
 //! - The renames are those that the text of the question states, none without a text.
 //! - A question is refused for the first missing image, else for the first name of no partition (`refused`,
 //!   `accepted`), and then nothing is written (`silent`).
 //! - `refusal_of` returns why an image is refused.
-//! - What is written is tested.
+//! - The lines of text are tested.
 //!
 //! There is a line for each partition of the new configuration, by name, with what differs beneath, then one for each
 //! that is gone, and a last line that counts. Below are `ptk_impact`, the configuration (`ptk_config`), images
 //! (`ptk_image`) and the faults (`ptk_main_faults`, of writing `ptk_main_runs`); above is the program, which reads the
-//! files and lends its standard output. The bytes are tested (`ptk_main_tests`).
+//! files and lends its standard output. The lines are tested in `ptk_main_tests`.
 
 mod answer;
 mod comparison;

@@ -2,6 +2,7 @@ use Rattle.std.proofs.Common.{◌≡◌, ◌^◌, ◌<◌, ◌≤◌, List, leng
 use Rattle.ptk_config.specs.Sections.{Section}
 use Rattle.ptk_impact_answers.specs.declared.tally.Tally.{Tally}
 use Rattle.ptk_impact_answers.specs.Tallies.{CountsAllNew}
+use Rattle.ptk_impact_answers.specs.Written.{PutsAllNew}
 use Rattle.ptk_impact_answers.proofs.HowMany.{are_counts}
 use Rattle.ptk_impact_answers.proofs.answer.Releases.put.Goals as goal
 
@@ -18,3 +19,15 @@ returns-clause-counted g c =
     (subst (λ (tally : Tally). CountsAllNew c.args.self.now.renames c.args.question.now.partition c.args.self.now.old c.args.self.now.new tally c.put_all_new.new.tally)
     c.new-tally.ensures c.in_ok-put_all_new.ensures.counted)
     c.in_ok-put_all_gone.ensures.counted
+
+pub returns-clause-json : goal.returns-clause-json
+returns-clause-json g c = λ json. (
+  g.W.Write.contents c.put_beginning.new.out,
+  (c.put_all_new.new.tally, g.W.Write.contents c.put_all_new.new.out),
+  g.W.Write.contents c.put_all_gone.new.out,
+  c.in_ok-put_beginning.ensures json,
+  subst (λ (tally : Tally). PutsAllNew c.args.self.now.renames c.args.question.now.partition c.args.self.now.old c.args.self.now.new (tally, g.W.Write.contents c.put_beginning.new.out)
+      (c.put_all_new.new.tally, g.W.Write.contents c.put_all_new.new.out)) c.new-tally.ensures (c.in_ok-put_all_new.ensures.json json),
+  c.in_ok-put_all_gone.ensures.json json,
+  c.in_ok-put_counts.ensures json,
+)

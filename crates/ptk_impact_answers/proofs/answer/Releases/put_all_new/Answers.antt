@@ -3,6 +3,7 @@ use Rattle.ptk_config.specs.Sections.{Section}
 use Rattle.ptk_impact_answers.specs.Counts.{IsClear}
 use Rattle.ptk_impact_answers.specs.SameRuns.{WasSeenAlikeIfAsked}
 use Rattle.ptk_impact_answers.specs.Tallies.{CountsNew}
+use Rattle.ptk_impact_answers.specs.Written.{PutsNew}
 use Rattle.ptk_impact_answers.proofs.Counting.{all_steps, next_holds, next_step, none_holds}
 use Rattle.ptk_impact_answers.proofs.answer.Releases.put_all_new.Goals as goal
 
@@ -10,6 +11,7 @@ pub loop-place-init : goal.loop-place-init
 loop-place-init g c = record {
   same = none_holds (WasSeenAlikeIfAsked c.args.self.now.renames c.args.question.now.partition c.args.self.now.old c.args.self.now.new) (IsClear c.args.tally.now);
   counted = refl;
+  json = λ json. refl;
 }
 
 pub loop-place-preserved : goal.loop-place-preserved
@@ -18,6 +20,9 @@ loop-place-preserved g c = record {
       (IsClear c.args.tally.now) (IsClear c.loop-place.tally) (IsClear c.put_new.new.tally) c.loop-place.invariant.same c.in_ok-put_new.ensures.same;
   counted = next_step (CountsNew c.args.self.now.renames c.args.question.now.partition c.args.self.now.old c.args.self.now.new) c.loop-place.place
       c.args.tally.now c.loop-place.tally c.put_new.new.tally c.loop-place.invariant.counted c.in_ok-put_new.ensures.counted;
+  json = λ json. next_step (PutsNew c.args.self.now.renames c.args.question.now.partition c.args.self.now.old c.args.self.now.new) c.loop-place.place
+      (c.args.tally.now, g.W.Write.contents c.args.out.now) (c.loop-place.tally, g.W.Write.contents c.loop-place.out)
+      (c.put_new.new.tally, g.W.Write.contents c.put_new.new.out) (c.loop-place.invariant.json json) (c.in_ok-put_new.ensures.json json);
 }
 
 pub returns-clause-counted : goal.returns-clause-counted
@@ -25,3 +30,10 @@ returns-clause-counted g c =
     let here : c.loop-place.place ≡ length c.sections-place-end.result.now = omega arith in
     all_steps (CountsNew c.args.self.now.renames c.args.question.now.partition c.args.self.now.old c.args.self.now.new) c.loop-place.place _ c.args.tally.now c.loop-place.tally
     (here ∙ ap (λ (sections : List Section). length sections) c.sections-place-end.ensures.value) c.loop-place.invariant.counted
+
+pub returns-clause-json : goal.returns-clause-json
+returns-clause-json g c = λ json.
+    let here : c.loop-place.place ≡ length c.sections-place-end.result.now = omega arith in
+    all_steps (PutsNew c.args.self.now.renames c.args.question.now.partition c.args.self.now.old c.args.self.now.new) c.loop-place.place _
+    (c.args.tally.now, g.W.Write.contents c.args.out.now) (c.loop-place.tally, g.W.Write.contents c.loop-place.out)
+    (here ∙ ap (λ (sections : List Section). length sections) c.sections-place-end.ensures.value) (c.loop-place.invariant.json json)

@@ -1,3 +1,4 @@
+use Rattle.std.proofs.Common.{ap}
 use Rattle.ptk_impact_answers.specs.SameRuns.{subject_at}
 use Rattle.ptk_impact_answers.specs.Counts.{IsClear}
 use Rattle.ptk_impact_answers.proofs.Counting.{alike_counted}
@@ -10,3 +11,24 @@ returns-clause-same g c =
 
 pub returns-clause-counted : goal.returns-clause-counted
 returns-clause-counted g c = (c.in-Ok.comparison.impact, c.in-Ok.ensures.impact, c.count.ensures.counted)
+
+pub returns-clause-json : goal.returns-clause-json
+returns-clause-json g c = λ json.
+    let found = c.in-Ok.ensures in (
+      c.in-Ok.comparison,
+      record {
+        old_name = found.old_name;
+        new_name = found.new_name;
+        old_file = found.old_file;
+        new_file = found.new_file;
+        old_place = ap (λ places. places.old) found.its_places;
+        new_place = ap (λ places. places.new) found.its_places;
+        old_limits = found.old_limits;
+        new_limits = found.new_limits;
+        impact = found.impact;
+        old_refusal = found.old_refusal;
+        new_refusal = found.new_refusal;
+      },
+      c.in_ok-put_comparison.ensures json,
+      c.count.ensures.counted,
+    )
