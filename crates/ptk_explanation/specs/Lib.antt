@@ -1,3 +1,5 @@
 pub mod Deadlocks
+pub mod Facts
 pub mod Refusals
 pub mod Standing
+pub mod Stops

@@ -1,8 +1,10 @@
 -- The address for which an instruction is not carried out.
-use Rattle.std.specs.Prelude.{ℕ, ◌+◌, ◌-◌, ◌%◌, ◌==◌, if◌then◌else◌, Option, Some, None}
+use Rattle.std.specs.Prelude.{ℕ, ◌+◌, ◌-◌, ◌%◌, ◌==◌, Bool, false, if◌then◌else◌, Option, Some, None}
 use Rattle.ptk_words.specs.Words.{sign_extension, word_of}
 use Rattle.ptk_words.specs.Names.{Pointer, Word}
 use Rattle.ptk_words.specs.Processor.{Processor, register}
+use Rattle.ptk_words.specs.declared.faults.Cause.{Cause}
+use Rattle.ptk_words.specs.declared.faults.Cause.TheVariants as cause
 use Rattle.ptk_words.specs.declared.faults.FaultKind.{FaultKind}
 use Rattle.ptk_words.specs.declared.faults.FaultKind.TheVariants.{Illegal, Fetch, Load, Store, Misaligned}
 use Rattle.ptk_rv32i_code.specs.declared.instr.Instr.{Instr}
@@ -34,10 +36,28 @@ abbrev pub address_in : Processor → Option Instr → Option Pointer
 address_in cpu None = None
 address_in cpu (Some i) = address_of cpu i
 
+-- a pc that is the address of a word (RISC-V 1.5)
+abbrev pub is_aligned : Pointer → Bool
+is_aligned pc = pc % 4 == 0
+
 -- the address for which an instruction is not carried out: of a load or a store its own, of one that is not fetched the pc, of a jump the target (RISC-V 1.5, 2.5, 2.6)
 abbrev pub refused_address : FaultKind → Processor → Word → Option Pointer
 refused_address Illegal cpu word = None
 refused_address Fetch cpu word = Some cpu.pc
 refused_address Load cpu word = address_in cpu (decoded word)
 refused_address Store cpu word = address_in cpu (decoded word)
-refused_address Misaligned cpu word = if cpu.pc % 4 == 0 then address_in cpu (decoded word) else Some cpu.pc
+refused_address Misaligned cpu word = if is_aligned cpu.pc then address_in cpu (decoded word) else Some cpu.pc
+
+-- the address for which a partition was stopped, None of a break (RISC-V 2.8)
+abbrev pub stop_address : Cause → Processor → Word → Option Pointer
+stop_address cause.Break cpu word = None
+stop_address (cause.Fault kind) cpu word = refused_address kind cpu word
+
+-- a word was fetched at the pc at which a partition was stopped: the pc is one of a word, and it was not the fetch that failed (RISC-V 1.5)
+abbrev pub is_fetched : Cause → Pointer → Bool
+is_fetched cause.Break pc = is_aligned pc
+is_fetched (cause.Fault Illegal) pc = is_aligned pc
+is_fetched (cause.Fault Fetch) pc = false
+is_fetched (cause.Fault Load) pc = is_aligned pc
+is_fetched (cause.Fault Store) pc = is_aligned pc
+is_fetched (cause.Fault Misaligned) pc = is_aligned pc

@@ -5,6 +5,7 @@ ghost use Rattle.ptk_words_model.specs.Chain.{leads_to};
 ghost use Rattle.ptk_main_runs.specs.World.{state_of};
 ghost use Rattle.ptk_explanation.specs.Deadlocks.{IsDeadlocked, blocker_in, blocker_of_wait};
 
+use crate::facts::thread_count;
 use ptk_main_runs::{Activity, System};
 use ptk_words::{PartId, ThreadNo, Wait};
 
@@ -28,7 +29,7 @@ pub(crate) fn is_deadlocked(system: &System<'_>, p: PartId, t: ThreadNo) -> bool
     requires { p < length system.now.config.sections }
     ensures { IsTrue result ↔ IsDeadlocked (state_of system.now p).part t }
 {
-    let most = system.tables().threads().part(p).len();
+    let most = thread_count(system, p);
     match blocker(system, p, t) {
         Some(next) => leads(system, p, t, most, next),
         None => false,

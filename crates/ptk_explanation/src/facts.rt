@@ -1,21 +1,39 @@
 //! What is read of a system for an explanation.
 
-ghost use Rattle.std.specs.Prelude.{◌<◌, ◌≤◌, length};
+ghost use Rattle.std.specs.Prelude.{◌≡◌, ◌<◌, ◌≤◌, IfOk, length, option_map, string_bytes};
 ghost use Rattle.ptk_words.specs.declared.TheConstants.{THREAD_LIMIT};
+ghost use Rattle.ptk_words_model.specs.Priority.{thread_at};
+ghost use Rattle.ptk_disasm.specs.Spelling.{statement_text};
+ghost use Rattle.ptk_disasm.specs.WordStatements.{statement_for};
+ghost use Rattle.ptk_main_runs.specs.World.{state_of};
+ghost use Rattle.ptk_explanation.specs.Facts.{awaited_in, facts_of, is_cancel_pending, live_pc, live_stack, owner_of};
+ghost use Rattle.ptk_explanation.specs.Refusals.{is_fetched, stop_address};
+ghost use Rattle.ptk_explanation.specs.Stops.{said_of, statement_of, stop_in};
 
 use crate::history::History;
 use crate::refusal::{WORD_BYTES, refused_address};
 use ptk_disasm::push_word_statement;
 use ptk_main_runs::{Activity, MutexState, System};
-use ptk_words::{Cause, Cpu, Entry, FaultKind, MutexNo, Owner, PartId, Phase, Thread, ThreadNo};
+use ptk_words::{
+    Cause, Cpu, Entry, FaultKind, MutexNo, Owner, PartId, Phase, SP, Thread, ThreadNo,
+};
 use std::alloc::{AllocError, Global};
 
 /// How many numbers of threads a partition has, at most `THREAD_LIMIT`.
 pub(crate) fn thread_count(system: &System<'_>, p: PartId) -> usize
     requires { p < length system.now.config.sections }
-    ensures { result ≤ THREAD_LIMIT }
+    ensures count { result ≡ length (state_of system.now p).part.locks.threads }
+    ensures few { result ≤ THREAD_LIMIT }
 {
     system.tables().threads().part(p).len()
+}
+
+/// The thread of a number, None of a free one.
+fn thread_of(system: &System<'_>, p: PartId, t: ThreadNo) -> Option<Thread>
+    requires { p < length system.now.config.sections }
+    ensures { result ≡ thread_at (state_of system.now p).part.locks t }
+{
+    system.tables().threads().thread(p, t)
 }
 
 /// A mutex that a thread waits for, and what it is; None of a number that is no mutex.
@@ -27,7 +45,9 @@ pub(crate) struct Awaited {
 
 impl Awaited {
     /// Who owns the mutex.
-    pub(crate) fn owner(&self) -> Option<Owner> {
+    pub(crate) fn owner(&self) -> Option<Owner>
+        ensures { result ≡ owner_of self.now }
+    {
         let state = self.state.as_ref()?;
         Some(state.owner)
     }
@@ -54,26 +74,48 @@ impl ThreadFacts {
         history: &History,
     ) -> Option<ThreadFacts>
         requires { p < length system.now.config.sections }
+        ensures { result ≡ facts_of (state_of system.now p).part number history.now }
     {
-        let thread = system.tables().threads().thread(p, number)?;
+        let Some(thread) = thread_of(system, p, number) else {
+            return None;
+        };
         let is_cancel_pending = is_cancel_pending(system, p, number, thread.phase);
-        let effective = system.effective_priority(p, number)?;
         let activity = system.activity(p, number);
         let awaited = awaited_in(system, p, &activity);
-        Some(ThreadFacts {
-            number,
-            thread,
-            activity,
-            effective,
-            awaited,
-            is_cancel_pending,
-            history: *history,
-        })
+        match system.effective_priority(p, number) {
+            Some(effective) => Some(ThreadFacts {
+                number,
+                thread,
+                activity,
+                effective,
+                awaited,
+                is_cancel_pending,
+                history: *history,
+            }),
+            None => None,
+        }
     }
 
     /// Its pc, None where it has ended.
-    pub(crate) fn pc(&self) -> Option<u32> {
-        (!self.thread.phase.is_ended()).then_some(self.thread.cpu.pc())
+    pub(crate) fn pc(&self) -> Option<u32>
+        ensures { result ≡ live_pc self.now.thread }
+    {
+        if self.thread.phase.is_ended() {
+            None
+        } else {
+            Some(self.thread.cpu.pc())
+        }
+    }
+
+    /// Its stack pointer, None where it has ended.
+    pub(crate) fn stack_pointer(&self) -> Option<u32>
+        ensures { result ≡ live_stack self.now.thread }
+    {
+        if self.thread.phase.is_ended() {
+            None
+        } else {
+            Some(self.thread.cpu.register(SP))
+        }
     }
 }
 
@@ -81,6 +123,7 @@ impl ThreadFacts {
 /// request (XSH 2.9.5.2).
 fn is_cancel_pending(system: &System<'_>, p: PartId, t: ThreadNo, phase: Phase) -> bool
     requires { p < length system.now.config.sections }
+    ensures { result ≡ is_cancel_pending (state_of system.now p).part t phase }
 {
     phase.is_normal() && system.is_cancel_pending(p, t)
 }
@@ -88,6 +131,7 @@ fn is_cancel_pending(system: &System<'_>, p: PartId, t: ThreadNo, phase: Phase) 
 /// The mutex that a thread waits for, None where it waits for none.
 pub(crate) fn awaited_in(system: &System<'_>, p: PartId, activity: &Activity) -> Option<Awaited>
     requires { p < length system.now.config.sections }
+    ensures { result ≡ awaited_in (state_of system.now p).part.locks activity.now }
 {
     let mutex = activity.mutex()?;
     let state = system.mutex(p, mutex);
@@ -118,18 +162,15 @@ impl Stop {
         cause: Cause,
     ) -> Result<Option<Stop>, AllocError>
         requires { p < length system.now.config.sections }
+        ensures { IfOk result (λ found. option_map said_of found ≡ stop_in cause (state_of system.now p).part) }
     {
         let Some(step) = system.last_step(p) else {
             return Ok(None);
         };
-        let Some(thread) = system.tables().threads().thread(p, step.thread) else {
+        let Some(thread) = thread_of(system, p, step.thread) else {
             return Ok(None);
         };
-        let statement = if is_fetched(cause, step.pc) {
-            Some(statement_of(alloc, step.word)?)
-        } else {
-            None
-        };
+        let statement = statement_of(alloc, cause, &step)?;
         Ok(Some(Stop {
             cause,
             step,
@@ -141,7 +182,9 @@ impl Stop {
 }
 
 /// The address for which the instruction was not carried out, None of a break.
-fn stop_address(cause: Cause, cpu: &Cpu, word: u32) -> Option<u32> {
+fn stop_address(cause: Cause, cpu: &Cpu, word: u32) -> Option<u32>
+    ensures { result ≡ stop_address cause cpu.now word }
+{
     match cause {
         Cause::Break => None,
         Cause::Fault(kind) => refused_address(kind, cpu, word),
@@ -149,15 +192,30 @@ fn stop_address(cause: Cause, cpu: &Cpu, word: u32) -> Option<u32> {
 }
 
 /// Whether a word was fetched at a pc where this was the cause.
-fn is_fetched(cause: Cause, pc: u32) -> bool {
+fn is_fetched(cause: Cause, pc: u32) -> bool
+    ensures { result ≡ is_fetched cause pc }
+{
     match cause {
         Cause::Fault(FaultKind::Fetch) => false,
         Cause::Break | Cause::Fault(_) => pc % WORD_BYTES == 0,
     }
 }
 
+/// The statement of the word at which a step stopped, None where it was not fetched. An error where memory ran out.
+fn statement_of(alloc: Global, cause: Cause, step: &Entry) -> Result<Option<String>, AllocError>
+    ensures { IfOk result (λ statement. option_map string_bytes statement ≡ statement_of cause step.now) }
+{
+    if !is_fetched(cause, step.pc) {
+        return Ok(None);
+    }
+    let statement = statement_text(alloc, step.word)?;
+    Ok(Some(statement))
+}
+
 /// The statement of a word. An error where memory ran out.
-fn statement_of(alloc: Global, word: u32) -> Result<String, AllocError> {
+fn statement_text(alloc: Global, word: u32) -> Result<String, AllocError>
+    ensures { IfOk result (λ statement. string_bytes statement ≡ statement_text (statement_for word)) }
+{
     let mut statement = String::new(alloc);
     push_word_statement(&mut statement, word)?;
     Ok(statement)
