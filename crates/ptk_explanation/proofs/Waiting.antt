@@ -20,7 +20,7 @@ blocker_within s q v None e n = none_some (blocker_in s q) v (blocker-free s q e
 blocker_within s q v (Some thread) e n = number_of s.locks.threads q thread e
 
 -- only threads of the pool wait
-blocker_bounded : (s : Part) → IsBounded (length s.locks.threads) (blocker_in s)
+pub blocker_bounded : (s : Part) → IsBounded (length s.locks.threads) (blocker_in s)
 blocker_bounded s = record { each = λ q v n. blocker_within s q v (pool_get s.locks.threads q) refl n }
 
 -- a thread that waits for the next one is on a cycle if and only if as many waits as there are numbers lead from that one back
