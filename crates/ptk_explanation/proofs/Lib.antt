@@ -1,3 +1,4 @@
 pub mod Waiting
 pub mod Leasts
 pub mod Reading
+pub mod Looks

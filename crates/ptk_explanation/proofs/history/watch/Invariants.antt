@@ -1,8 +1,15 @@
-use Rattle.std.proofs.Common.{◌≡◌, ◌-◌, ◌<◌, length}
+use Rattle.std.proofs.Common.{◌≡◌, ◌-◌, ◌<◌, ◌≤◌, length, max}
+use Rattle.ptk_main_runs.specs.World.{at_tick}
 use Rattle.ptk_explanation.proofs.history.watch.Given as goal
 
 abbrev pub invariant-loop-tick : goal.invariant-loop-tick
-invariant-loop-tick l = (l.system.config ≡ l.initial.system.config) × (l.p < length l.system.config.sections)
+invariant-loop-tick l = record {
+  config : l.system.config ≡ l.initial.system.config;
+  within : l.p < length l.system.config.sections;
+  run : l.system ≡ at_tick l.system.tick l.initial.system;
+  from : l.initial.system.tick ≤ l.system.tick;
+  to : l.system.tick ≤ max l.initial.system.tick l.to;
+}
 
 abbrev pub decreases-loop-tick : goal.decreases-loop-tick
 decreases-loop-tick l = l.end - l.tick
