@@ -4,3 +4,4 @@ pub mod Histories
 pub mod Refusals
 pub mod Standing
 pub mod Stops
+pub mod Words

@@ -1,5 +1,8 @@
 //! The words of an explanation.
 
+ghost use Rattle.std.specs.Prelude.{◌≡◌};
+ghost use Rattle.ptk_explanation.specs.Words.{ceiling_in, name_of_policy, name_of_protocol, name_of_type, words_of_refusal};
+
 use crate::facts::Awaited;
 use ptk_main_runs::{Activity, PartStatus, cause_word};
 use ptk_words::{Cause, FaultKind, LAST_TICK, MutexKind, Owner, Policy, Protocol, Tick, Wait};
@@ -102,7 +105,9 @@ fn fmt_wait<W: fmt::Write>(wait: &Wait, owner: OwnedBy, f: &mut fmt::Formatter<W
 }
 
 /// The name of a policy (XSH 2.8.4).
-pub(crate) fn policy_name(policy: Policy) -> &'static str {
+pub(crate) fn policy_name(policy: Policy) -> &'static str
+    ensures { result.now ≡ name_of_policy policy }
+{
     match policy {
         Policy::Fifo => "SCHED_FIFO",
         Policy::RoundRobin => "SCHED_RR",
@@ -110,7 +115,9 @@ pub(crate) fn policy_name(policy: Policy) -> &'static str {
 }
 
 /// The name of a mutex's type (pthread_mutexattr_settype).
-pub(crate) fn type_name(kind: MutexKind) -> &'static str {
+pub(crate) fn type_name(kind: MutexKind) -> &'static str
+    ensures { result.now ≡ name_of_type kind }
+{
     match kind {
         MutexKind::Normal => "PTHREAD_MUTEX_NORMAL",
         MutexKind::ErrorCheck => "PTHREAD_MUTEX_ERRORCHECK",
@@ -119,7 +126,9 @@ pub(crate) fn type_name(kind: MutexKind) -> &'static str {
 }
 
 /// The name of a mutex's protocol (pthread_mutexattr_setprotocol).
-pub(crate) fn protocol_name(protocol: Protocol) -> &'static str {
+pub(crate) fn protocol_name(protocol: Protocol) -> &'static str
+    ensures { result.now ≡ name_of_protocol protocol }
+{
     match protocol {
         Protocol::NoProtocol => "PTHREAD_PRIO_NONE",
         Protocol::Inherit => "PTHREAD_PRIO_INHERIT",
@@ -128,7 +137,9 @@ pub(crate) fn protocol_name(protocol: Protocol) -> &'static str {
 }
 
 /// The priority ceiling of a protocol that has one (pthread_mutexattr_setprioceiling).
-pub(crate) fn ceiling_of(protocol: Protocol) -> Option<u8> {
+pub(crate) fn ceiling_of(protocol: Protocol) -> Option<u8>
+    ensures { result ≡ ceiling_in protocol }
+{
     match protocol {
         Protocol::NoProtocol | Protocol::Inherit => None,
         Protocol::Protect(ceiling) => Some(ceiling.level()),
@@ -136,7 +147,9 @@ pub(crate) fn ceiling_of(protocol: Protocol) -> Option<u8> {
 }
 
 /// Why an address was refused.
-pub(crate) fn refusal_words(cause: Cause) -> &'static str {
+pub(crate) fn refusal_words(cause: Cause) -> &'static str
+    ensures { result.now ≡ words_of_refusal cause }
+{
     match cause {
         Cause::Fault(FaultKind::Misaligned) => "misaligned",
         Cause::Break | Cause::Fault(_) => "at or past the end of memory",
