@@ -1,4 +1,9 @@
 pub mod Waiting
 pub mod Leasts
+pub mod Begins
 pub mod Reading
 pub mod Looks
+pub mod Objects
+pub mod Arrays
+pub mod Told
+pub mod Documents

@@ -1,7 +1,10 @@
 pub mod Deadlocks
 pub mod Facts
 pub mod Histories
+pub mod Members
+pub mod Objects
 pub mod Refusals
 pub mod Standing
 pub mod Stops
+pub mod Targets
 pub mod Words

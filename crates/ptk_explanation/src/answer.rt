@@ -1,14 +1,17 @@
 //! The answer to the question how a partition stands.
 
-ghost use Rattle.std.specs.Prelude.{◌≡◌, ◌≢◌, ◌<◌, ◌≤◌, None, IfErr, IsSome, MatchResult, OnOk, length};
+ghost use Rattle.std.specs.Prelude.{◌≡◌, ◌≢◌, ℕ, ◌<◌, ◌≤◌, ◌++◌, List, None, Some, IfErr, IfOk, IsSome, MatchResult, OnOk, length, max, string_bytes};
+ghost use Rattle.std.specs.Io.KnownBytes.{Appends};
 ghost use Rattle.ptk_words.specs.declared.TheConstants.{LAST_TICK};
 ghost use Rattle.ptk_main_runs.specs.Missing.{first_missing, missing_in};
 ghost use Rattle.ptk_main_runs.specs.declared.runs.RunFault.TheVariants.{NoPartition};
 ghost use Rattle.ptk_main_runs.specs.RunFaults.{missing_in_run};
 ghost use Rattle.ptk_main_runs.specs.Parts.{part_named};
+ghost use Rattle.ptk_main_runs.specs.World.{world_at};
+ghost use Rattle.ptk_explanation.specs.Objects.{IsDocument, IsExplanation};
 
 use crate::document::push_document;
-use crate::history::histories;
+use crate::history::{History, histories};
 use crate::lines::push_lines;
 use ptk_config::Config;
 use ptk_main_runs::{BootFault, Files, RunFault, System, part_named};
@@ -49,6 +52,8 @@ pub fn explain_partition_with<W: Write>(
         (λ _. first_missing files.now config.now.sections ≡ None)
         (λ fault. fault ≢ NoPartition → first_missing files.now config.now.sections ≡ missing_in_run fault) }
     ensures silent { IfErr result (λ fault. fault ≢ RunFault.Write → out.new ≡ out.old) }
+    ensures json { OnOk result (form ≡ Form.Json → (p : ℕ) × (part_named config.now name.now ≡ Some p)
+        × (text : List ℕ) × IsExplanation symbols.now (world_at config.now files.now 0) ticks p text × Appends (W.contents out.old) (W.contents out.new) text) }
 {
     match part_named(config, name) {
         Some(p) => put_answer(form, alloc, config, files, ticks, p, symbols, out),
@@ -74,6 +79,8 @@ fn put_answer<W: Write>(
         (λ _. first_missing files.now config.now.sections ≡ None)
         (λ fault. first_missing files.now config.now.sections ≡ missing_in_run fault) }
     ensures silent { IfErr result (λ fault. fault ≢ RunFault.Write → out.new ≡ out.old) }
+    ensures json { OnOk result (form ≡ Form.Json → (text : List ℕ)
+        × IsExplanation symbols.now (world_at config.now files.now 0) ticks p text × Appends (W.contents out.old) (W.contents out.new) text) }
 {
     match answer_of(form, alloc, config, files, ticks, p, symbols) {
         Ok(answer) => match out.write_all(answer.as_bytes()) {
@@ -99,6 +106,7 @@ fn answer_of(
     ensures missing { MatchResult result
         (λ _. first_missing files.now config.now.sections ≡ None)
         (λ fault. first_missing files.now config.now.sections ≡ missing_in fault) }
+    ensures json { IfOk result (λ text. form ≡ Form.Json → IsExplanation symbols.now (world_at config.now files.now 0) ticks p (string_bytes text)) }
 {
     let mut system = System::boot(alloc, config, files)?;
     match text_of(form, alloc, &mut system, ticks, p, symbols) {
@@ -118,12 +126,37 @@ fn text_of(
 ) -> Result<String, AllocError>
     requires ticks { ticks ≤ LAST_TICK }
     requires partition { p < length system.old.config.sections }
+    ensures { IfOk result (λ text. form ≡ Form.Json → IsExplanation symbols.now system.old (max system.old.tick ticks) p (string_bytes text)) }
 {
     let histories = histories(alloc, system, p, ticks)?;
     let mut text = String::new(alloc);
-    match form {
-        Form::Lines => push_lines(alloc, &mut text, system, p, histories.as_slice(), symbols)?,
-        Form::Json => push_document(alloc, &mut text, system, p, histories.as_slice(), symbols)?,
-    }
+    push_answer(
+        form,
+        alloc,
+        &mut text,
+        system,
+        p,
+        histories.as_slice(),
+        symbols,
+    )?;
     Ok(text)
+}
+
+/// Appends how a partition of a system stands. An error where memory ran out.
+fn push_answer(
+    form: Form,
+    alloc: Global,
+    out: &mut String,
+    system: &System<'_>,
+    p: PartId,
+    histories: &[History],
+    symbols: &Symbols<'_>,
+) -> Result<(), AllocError>
+    requires { p < length system.now.config.sections }
+    ensures { OnOk result (form ≡ Form.Json → (text : List ℕ) × IsDocument symbols.now system.now p histories.now text × (string_bytes out.new ≡ string_bytes out.old ++ text)) }
+{
+    match form {
+        Form::Lines => push_lines(alloc, out, system, p, histories, symbols),
+        Form::Json => push_document(alloc, out, system, p, histories, symbols),
+    }
 }

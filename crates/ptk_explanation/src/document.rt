@@ -1,15 +1,25 @@
 //! The JSON object.
 
-ghost use Rattle.std.specs.Prelude.{◌<◌, length};
+ghost use Rattle.std.specs.Prelude.{◌≡◌, ◌<◌, ◌++◌, ◌==◌, ◌&&◌, IfOk, List, OnOk, codes, is_none, length, not, option_map, string_bytes};
+ghost use Rattle.serde_json.specs.Written.{compact_text, items_text};
+ghost use Rattle.ptk_words.specs.Names.{Byte};
+ghost use Rattle.ptk_main_runs.specs.World.{section_at, state_of};
+ghost use Rattle.ptk_explanation.specs.Deadlocks.{cycle_from};
+ghost use Rattle.ptk_explanation.specs.Members.{shown_members};
+ghost use Rattle.ptk_explanation.specs.Objects.{IsBody, IsDeadlocksText, IsDocument, IsGoing, begun_text, ceiling_awaited, cycle_data, head_text, number_items, offset_at, owner_awaited, protocol_awaited, registers_text, stop_members, stop_text, stopped_text, symbol_at, text_in, thread_data, thread_members, threads_text, type_awaited, used_text};
+ghost use Rattle.ptk_explanation.specs.Standing.{standing_of};
+ghost use Rattle.ptk_explanation.specs.Stops.{said_of, stop_in};
 
 use crate::cycles::{begins_cycle, following};
 use crate::facts::{Awaited, Stop, ThreadFacts, thread_count};
 use crate::history::History;
+use crate::members::{Member, MemberValue, comma_unless, push_members, push_text};
 use crate::status::standing;
+use crate::target::Target;
 use crate::words::{ceiling_of, policy_name, protocol_name, type_name};
-use ptk_main_runs::{Activity, PartStatus, System, cause_word, status_word};
+use ptk_main_runs::{PartStatus, System, cause_word, status_word};
 use ptk_symbols::Symbols;
-use ptk_words::{Cpu, Owner, PartId, SP, THREAD_LIMIT, ThreadNo, Wait};
+use ptk_words::{Cause, Cpu, Owner, PartId, ThreadNo};
 use std::alloc::{AllocError, Global};
 use std::fmt::Write;
 
@@ -25,7 +35,10 @@ struct Place<'a> {
 
 impl<'a> Place<'a> {
     /// Of an address, if there is one and a symbol begins at or below it.
-    fn of(symbols: &Symbols<'a>, address: Option<u32>) -> Place<'a> {
+    fn of(symbols: &Symbols<'a>, address: Option<u32>) -> Place<'a>
+        ensures symbol { option_map (λ name. name.now) result.symbol ≡ symbol_at symbols.now address }
+        ensures offset { result.offset ≡ offset_at symbols.now address }
+    {
         let none = Place {
             symbol: None,
             offset: None,
@@ -35,7 +48,7 @@ impl<'a> Place<'a> {
         };
         match symbols.nearest(address) {
             Some(located) => Place {
-                symbol: str::from_utf8(located.name).ok(),
+                symbol: text_in(located.name),
                 offset: Some(located.distance),
             },
             None => none,
@@ -43,117 +56,21 @@ impl<'a> Place<'a> {
     }
 }
 
-/// A member of an object: its name, and its value, without which it is left out.
-type Member<'a> = (&'static str, MemberValue<'a>);
-
-/// The value of a member, if it has one.
-#[derive(Clone, Copy)]
-enum MemberValue<'a> {
-    /// A number.
-    Number(Option<u64>),
-    /// A byte.
-    Byte(Option<u8>),
-    /// A word.
-    Word(Option<u32>),
-    /// A text.
-    Text(Option<&'a str>),
-    /// A fact, which is a value where it holds.
-    Fact(bool),
-}
-
-/// A value that there is.
-#[derive(Clone, Copy)]
-enum Shown<'a> {
-    /// A number.
-    Number(u64),
-    /// A text.
-    Text(&'a str),
-    /// A fact that holds.
-    Yes,
-}
-
-/// The value of a member that has one.
-fn shown_of(value: MemberValue<'_>) -> Option<Shown<'_>> {
-    match value {
-        MemberValue::Number(Some(number)) => Some(Shown::Number(number)),
-        MemberValue::Byte(Some(byte)) => Some(Shown::Number(u64::from(byte))),
-        MemberValue::Word(Some(word)) => Some(Shown::Number(u64::from(word))),
-        MemberValue::Text(Some(text)) => Some(Shown::Text(text)),
-        MemberValue::Fact(true) => Some(Shown::Yes),
-        MemberValue::Number(None)
-        | MemberValue::Byte(None)
-        | MemberValue::Word(None)
-        | MemberValue::Text(None)
-        | MemberValue::Fact(false) => None,
-    }
-}
-
-/// What a wait is for.
-#[derive(Clone, Copy)]
-struct Target {
-    activity: &'static str,
-    mutex: Option<u8>,
-    condition: Option<u8>,
-    joins: Option<u8>,
-    deadline: Option<u64>,
-}
-
-impl Target {
-    /// Of what waits for nothing.
-    fn none(activity: &'static str) -> Target {
-        Target {
-            activity,
-            mutex: None,
-            condition: None,
-            joins: None,
-            deadline: None,
-        }
-    }
-
-    /// Of what a thread does.
-    fn of(activity: &Activity) -> Target {
-        match activity {
-            Activity::Free => Target::none("free"),
-            Activity::Running => Target::none("running"),
-            Activity::Ready => Target::none("ready"),
-            Activity::Blocked(wait) => Target::of_wait(wait),
-            Activity::Ended => Target::none("ended"),
-            Activity::Halted => Target::none("halted"),
-        }
-    }
-
-    /// Of a wait.
-    fn of_wait(wait: &Wait) -> Target {
-        let mut target = Target::none("input");
-        target.deadline = wait.deadline().map(|tick| tick.ticks());
-        match wait {
-            Wait::InputWait => {}
-            Wait::SleepWait(_) => target.activity = "sleep",
-            Wait::JoinWait(u) => {
-                target.activity = "join";
-                target.joins = Some(u.number());
-            }
-            Wait::MutexWait(m, _) => {
-                target.activity = "mutex";
-                target.mutex = Some(m.number());
-            }
-            Wait::ConditionWait(c, m, _) => {
-                target.activity = "condition";
-                target.condition = Some(c.number());
-                target.mutex = Some(m.number());
-            }
-            Wait::RelockWait(m, _) => {
-                target.activity = "relock";
-                target.mutex = Some(m.number());
-            }
-        }
-        target
+/// A name, where it is a text.
+fn text_in(name: &[u8]) -> Option<&str>
+    ensures { option_map (λ text. text.now) result ≡ text_in name.now }
+{
+    match str::from_utf8(name) {
+        Ok(text) => Some(text),
+        Err(_) => None,
     }
 }
 
 /// The thread that owns the mutex for which a thread waits.
-fn owner_number(facts: &ThreadFacts) -> Option<u8> {
-    let awaited = facts.awaited.as_ref()?;
+fn owner_number(awaited: &Option<Awaited>) -> Option<u8>
+    ensures { result ≡ owner_awaited awaited.now }
+{
+    let awaited = awaited.as_ref()?;
     match awaited.owner()? {
         Owner::OwnedBy(u) => Some(u.number()),
         Owner::Free | Owner::Abandoned => None,
@@ -170,7 +87,11 @@ struct MutexMembers {
 
 impl MutexMembers {
     /// Of the mutex that a thread waits for, if it waits for one.
-    fn of(awaited: &Option<Awaited>) -> MutexMembers {
+    fn of(awaited: &Option<Awaited>) -> MutexMembers
+        ensures kind { option_map (λ name. name.now) result.kind ≡ type_awaited awaited.now }
+        ensures protocol { option_map (λ name. name.now) result.protocol ≡ protocol_awaited awaited.now }
+        ensures ceiling { result.ceiling ≡ ceiling_awaited awaited.now }
+    {
         let none = MutexMembers {
             kind: None,
             protocol: None,
@@ -208,25 +129,80 @@ pub(crate) fn push_document(
     symbols: &Symbols<'_>,
 ) -> Result<(), AllocError>
     requires { p < length system.now.config.sections }
+    ensures { OnOk result ((text : List Byte) × IsDocument symbols.now system.now p histories.now text × (string_bytes out.new ≡ string_bytes out.old ++ text)) }
 {
     push_head(alloc, out, system, p)?;
+    push_body(alloc, out, system, p, histories, symbols)?;
+    out.push_str("}\n")
+}
+
+/// Appends what there is to say of a partition by its status, behind the members that each one has.
+fn push_body(
+    alloc: Global,
+    out: &mut String,
+    system: &System<'_>,
+    p: PartId,
+    histories: &[History],
+    symbols: &Symbols<'_>,
+) -> Result<(), AllocError>
+    requires { p < length system.now.config.sections }
+    ensures { OnOk result ((text : List Byte)
+        × IsBody symbols.now (state_of system.now p).part histories.now (standing_of (section_at system.now.config p) (state_of system.now p).part) text
+        × (string_bytes out.new ≡ string_bytes out.old ++ text)) }
+{
     match standing(system, p) {
-        Some(PartStatus::Stopped(cause, _)) => match Stop::of(alloc, system, p, cause)? {
-            Some(stop) => push_stop(alloc, out, &stop, symbols)?,
-            None => {}
-        },
-        Some(PartStatus::Idle) | Some(PartStatus::Running) => {
-            push_threads(alloc, out, system, p, histories, symbols)?;
-            push_deadlocks(out, system, p)?;
-        }
-        Some(PartStatus::Exited(code)) => write!(out, ",\"exit\":{code}")?,
+        Some(PartStatus::Stopped(cause, _)) => push_stopped(alloc, out, system, p, cause, symbols),
+        Some(PartStatus::Idle) => push_going(alloc, out, system, p, histories, symbols),
+        Some(PartStatus::Running) => push_going(alloc, out, system, p, histories, symbols),
+        Some(PartStatus::Exited(code)) => write!(out, ",\"exit\":{code}"),
         Some(PartStatus::Refused(fault)) => {
             let number = fault.number();
-            write!(out, ",\"image_fault\":{number}")?;
+            write!(out, ",\"image_fault\":{number}")
         }
-        None => {}
+        None => Ok(()),
     }
-    out.push_str("}\n")
+}
+
+/// Appends what there is to say of a partition that goes on: its threads, and its cycles of waits.
+fn push_going(
+    alloc: Global,
+    out: &mut String,
+    system: &System<'_>,
+    p: PartId,
+    histories: &[History],
+    symbols: &Symbols<'_>,
+) -> Result<(), AllocError>
+    requires { p < length system.now.config.sections }
+    ensures { OnOk result ((text : List Byte) × IsGoing symbols.now (state_of system.now p).part histories.now text × (string_bytes out.new ≡ string_bytes out.old ++ text)) }
+{
+    push_threads(alloc, out, system, p, histories, symbols)?;
+    push_deadlocks(out, system, p)
+}
+
+/// Appends what stopped a partition for this cause, where its last step is kept.
+fn push_stopped(
+    alloc: Global,
+    out: &mut String,
+    system: &System<'_>,
+    p: PartId,
+    cause: Cause,
+    symbols: &Symbols<'_>,
+) -> Result<(), AllocError>
+    requires { p < length system.now.config.sections }
+    ensures { OnOk result (string_bytes out.new ≡ string_bytes out.old ++ stopped_text symbols.now (stop_in cause (state_of system.now p).part)) }
+{
+    match Stop::of(alloc, system, p, cause)? {
+        Some(stop) => push_stop(alloc, out, &stop, symbols),
+        None => Ok(()),
+    }
+}
+
+/// The name of a partition.
+fn name_of<'a>(system: &System<'a>, p: PartId) -> &'a str
+    requires { p < length system.now.config.sections }
+    ensures { result.now ≡ (section_at system.now.config p).name }
+{
+    system.config().sections()[p.index()].name()
 }
 
 /// Appends the members that each partition has.
@@ -237,9 +213,10 @@ fn push_head(
     p: PartId,
 ) -> Result<(), AllocError>
     requires { p < length system.now.config.sections }
+    ensures { OnOk result ((word : List Byte) × (string_bytes out.new ≡ string_bytes out.old ++ head_text system.now p word)) }
 {
     out.push_str("{\"partition\":")?;
-    push_text(alloc, out, system.config().sections()[p.index()].name())?;
+    push_text(alloc, out, name_of(system, p))?;
     let (tick, steps, lost) = (system.tick().ticks(), system.steps(p), system.lost(p));
     let status = word_of(standing(system, p));
     write!(
@@ -248,57 +225,26 @@ fn push_head(
     )
 }
 
-/// Appends an object of the members that have a value, in the compact form.
-fn push_members(alloc: Global, out: &mut String, members: &[Member<'_>]) -> Result<(), AllocError> {
-    let mut before = "{";
-    for (name, value) in members {
-        if let Some(value) = shown_of(*value) {
-            write!(out, "{before}\"{name}\":")?;
-            push_shown(alloc, out, value)?;
-            before = ",";
-        }
-    }
-    out.push_str("}")
-}
-
-/// Appends the value of a member.
-fn push_shown(alloc: Global, out: &mut String, value: Shown<'_>) -> Result<(), AllocError> {
-    match value {
-        Shown::Number(number) => write!(out, "{number}"),
-        Shown::Text(text) => push_text(alloc, out, text),
-        Shown::Yes => out.push_str("true"),
-    }
-}
-
-/// Appends a text between quotes, with escapes.
-fn push_text(alloc: Global, out: &mut String, text: &str) -> Result<(), AllocError> {
-    match serde_json::to_string(alloc, &text) {
-        Ok(quoted) => out.push_str(quoted.as_str()),
-        Err(_) => Err(AllocError),
-    }
-}
-
 /// Appends what stopped a partition, and the registers of its thread.
 fn push_stop(
     alloc: Global,
     out: &mut String,
     stop: &Stop,
     symbols: &Symbols<'_>,
-) -> Result<(), AllocError> {
+) -> Result<(), AllocError>
+    ensures { OnOk result (string_bytes out.new ≡ string_bytes out.old ++ stop_text symbols.now (said_of stop.now)) }
+{
     let place = Place::of(symbols, Some(stop.step.pc));
-    let instruction = stop.statement.as_deref();
-    let members = stop_members(stop, place, instruction);
+    let members = stop_members(stop, place);
     out.push_str(",\"fault\":")?;
     push_members(alloc, out, &members)?;
     push_registers(out, &stop.cpu)
 }
 
 /// The members of what stopped a partition.
-fn stop_members<'a>(
-    stop: &Stop,
-    place: Place<'a>,
-    instruction: Option<&'a str>,
-) -> [Member<'a>; 8] {
+fn stop_members<'a>(stop: &'a Stop, place: Place<'a>) -> [Member<'a>; 8]
+    ensures { shown_members result ≡ stop_members (option_map (λ name. name.now) place.entry.symbol) place.entry.offset (said_of stop.now) }
+{
     [
         ("kind", MemberValue::Text(Some(cause_word(stop.cause)))),
         ("tick", MemberValue::Number(Some(stop.step.tick.ticks()))),
@@ -306,24 +252,22 @@ fn stop_members<'a>(
         ("pc", MemberValue::Word(Some(stop.step.pc))),
         ("symbol", MemberValue::Text(place.symbol)),
         ("offset", MemberValue::Word(place.offset)),
-        ("instruction", MemberValue::Text(instruction)),
+        ("instruction", MemberValue::Text(stop.statement.as_deref())),
         ("address", MemberValue::Word(stop.address)),
     ]
 }
 
 /// Appends the registers, by number from 0.
-fn push_registers(out: &mut String, cpu: &Cpu) -> Result<(), AllocError> {
+fn push_registers(out: &mut String, cpu: &Cpu) -> Result<(), AllocError>
+    ensures { OnOk result (string_bytes out.new ≡ string_bytes out.old ++ (codes ",\"registers\":" ++ registers_text cpu.now)) }
+{
     out.push_str(",\"registers\":[")?;
     for number in 0..REGISTERS {
-        let (before, value) = (comma_unless(number == 0), cpu.register(number));
+        let before = comma_unless(number == 0);
+        let value = cpu.register(number);
         write!(out, "{before}{value}")?;
     }
     out.push_str("]")
-}
-
-/// What is written before an item of a list.
-fn comma_unless(is_first: bool) -> &'static str {
-    if is_first { "" } else { "," }
 }
 
 /// Appends the threads, by number.
@@ -336,18 +280,37 @@ fn push_threads(
     symbols: &Symbols<'_>,
 ) -> Result<(), AllocError>
     requires { p < length system.now.config.sections }
+    ensures { OnOk result (string_bytes out.new ≡ string_bytes out.old ++ threads_text symbols.now (state_of system.now p).part histories.now) }
 {
+    let count = thread_count(system, p).min(histories.len());
     out.push_str(",\"threads\":[")?;
     let mut is_first = true;
-    for place in 0..thread_count(system, p).min(histories.len()) {
+    for place in 0..count {
         let t = ThreadNo::new(place as u8 + 1);
-        if let Some(facts) = ThreadFacts::of(system, p, t, &histories[place]) {
-            out.push_str(comma_unless(is_first))?;
-            push_thread(alloc, out, &facts, symbols)?;
-            is_first = false;
-        }
+        let facts = ThreadFacts::of(system, p, t, &histories[place]);
+        is_first = push_used(alloc, out, &facts, symbols, is_first)?;
     }
     out.push_str("]")
+}
+
+/// Appends a thread, if there is one of its number, behind a comma where it is not the first. Returns whether the next
+/// one is the first.
+fn push_used(
+    alloc: Global,
+    out: &mut String,
+    facts: &Option<ThreadFacts>,
+    symbols: &Symbols<'_>,
+    is_first: bool,
+) -> Result<bool, AllocError>
+    ensures text { IfOk result (λ _. string_bytes out.new ≡ string_bytes out.old ++ used_text (not is_first) symbols.now facts.now) }
+    ensures first { IfOk result (λ next. next ≡ (is_first && is_none facts.now)) }
+{
+    let Some(facts) = facts else {
+        return Ok(is_first);
+    };
+    out.push_str(comma_unless(is_first))?;
+    push_thread(alloc, out, facts, symbols)?;
+    Ok(false)
 }
 
 /// Appends a thread.
@@ -356,21 +319,29 @@ fn push_thread(
     out: &mut String,
     facts: &ThreadFacts,
     symbols: &Symbols<'_>,
-) -> Result<(), AllocError> {
+) -> Result<(), AllocError>
+    ensures { OnOk result (string_bytes out.new ≡ string_bytes out.old ++ compact_text (thread_data symbols.now facts.now)) }
+{
+    let place = Place::of(symbols, facts.pc());
+    let members = thread_members(facts, place);
+    push_members(alloc, out, &members)
+}
+
+/// The members of a thread.
+fn thread_members<'a>(facts: &ThreadFacts, place: Place<'a>) -> [Member<'a>; 20]
+    ensures { shown_members result ≡ thread_members (option_map (λ name. name.now) place.entry.symbol) place.entry.offset facts.now }
+{
     let target = Target::of(&facts.activity);
-    let pc = facts.pc();
-    let place = Place::of(symbols, pc);
-    let stack_pointer = pc.map(|_| facts.thread.cpu.register(SP));
-    let least = facts.history.least_stack;
     let mutex = MutexMembers::of(&facts.awaited);
+    let least = facts.history.least_stack;
     let thread = &facts.thread;
     let (policy, assigned) = (policy_name(thread.policy), thread.priority.level());
-    let members = [
+    [
         ("thread", MemberValue::Byte(Some(facts.number.number()))),
         ("activity", MemberValue::Text(Some(target.activity))),
         ("since", MemberValue::Number(Some(facts.history.since))),
         ("mutex", MemberValue::Byte(target.mutex)),
-        ("owner", MemberValue::Byte(owner_number(facts))),
+        ("owner", MemberValue::Byte(owner_number(&facts.awaited))),
         ("mutex_type", MemberValue::Text(mutex.kind)),
         ("mutex_protocol", MemberValue::Text(mutex.protocol)),
         ("mutex_ceiling", MemberValue::Byte(mutex.ceiling)),
@@ -383,34 +354,54 @@ fn push_thread(
             "effective_priority",
             MemberValue::Byte(Some(facts.effective)),
         ),
-        ("pc", MemberValue::Word(pc)),
+        ("pc", MemberValue::Word(facts.pc())),
         ("symbol", MemberValue::Text(place.symbol)),
         ("offset", MemberValue::Word(place.offset)),
-        ("stack_pointer", MemberValue::Word(stack_pointer)),
+        ("stack_pointer", MemberValue::Word(facts.stack_pointer())),
         ("least_stack_pointer", MemberValue::Word(least)),
         ("cancel_pending", MemberValue::Fact(facts.is_cancel_pending)),
-    ];
-    push_members(alloc, out, &members)
+    ]
 }
 
 /// Appends the cycles of threads that wait for one another, each as the numbers of its threads in order.
 fn push_deadlocks(out: &mut String, system: &System<'_>, p: PartId) -> Result<(), AllocError>
     requires { p < length system.now.config.sections }
+    ensures { OnOk result ((text : List Byte) × IsDeadlocksText (state_of system.now p).part text × (string_bytes out.new ≡ string_bytes out.old ++ text)) }
 {
+    let count = thread_count(system, p);
     out.push_str(",\"deadlocks\":[")?;
     let mut is_first = true;
-    for place in 0..thread_count(system, p) {
+    for place in 0..count {
         let t = ThreadNo::new(place as u8 + 1);
-        if begins_cycle(system, p, t) {
-            out.push_str(comma_unless(is_first))?;
-            push_cycle(out, system, p, t)?;
-            is_first = false;
-        }
+        let begins = begins_cycle(system, p, t);
+        is_first = push_begun(out, system, p, t, begins, is_first)?;
     }
     out.push_str("]")
 }
 
-/// Appends the threads of a cycle.
+/// Appends the cycle that begins with a thread, if one does, behind a comma where it is not the first. Returns whether
+/// the next one is the first.
+fn push_begun(
+    out: &mut String,
+    system: &System<'_>,
+    p: PartId,
+    t: ThreadNo,
+    begins: bool,
+    is_first: bool,
+) -> Result<bool, AllocError>
+    requires { p < length system.now.config.sections }
+    ensures text { IfOk result (λ _. string_bytes out.new ≡ string_bytes out.old ++ begun_text begins (not is_first) (cycle_data (state_of system.now p).part t)) }
+    ensures first { IfOk result (λ next. next ≡ (is_first && not begins)) }
+{
+    if !begins {
+        return Ok(is_first);
+    }
+    out.push_str(comma_unless(is_first))?;
+    push_cycle(out, system, p, t)?;
+    Ok(false)
+}
+
+/// Appends the threads of a cycle, as many as there are numbers of threads at most.
 fn push_cycle(
     out: &mut String,
     system: &System<'_>,
@@ -418,17 +409,34 @@ fn push_cycle(
     first: ThreadNo,
 ) -> Result<(), AllocError>
     requires { p < length system.now.config.sections }
+    ensures { OnOk result (string_bytes out.new ≡ string_bytes out.old ++ compact_text (cycle_data (state_of system.now p).part first)) }
 {
-    let mut at = first;
-    let mut before = "[";
-    for _ in 0..THREAD_LIMIT {
-        let number = at.number();
-        write!(out, "{before}{number}")?;
-        before = ",";
-        match following(system, p, first, at) {
-            Some(next) => at = next,
-            None => break,
-        }
+    let most = thread_count(system, p);
+    out.push_str("[")?;
+    push_waiting(out, system, p, first, most, first)
+}
+
+/// Appends the threads of a cycle from one on, at most this many.
+fn push_waiting(
+    out: &mut String,
+    system: &System<'_>,
+    p: PartId,
+    first: ThreadNo,
+    most: usize,
+    at: ThreadNo,
+) -> Result<(), AllocError>
+    requires { p < length system.now.config.sections }
+    ensures { OnOk result (string_bytes out.new ≡ string_bytes out.old
+        ++ items_text (not (at == first)) (number_items (cycle_from (state_of system.now p).part first most at))) }
+{
+    if most == 0 {
+        return out.push_str("]");
     }
-    out.push_str("]")
+    let number = at.number();
+    let before = comma_unless(number == first.number());
+    write!(out, "{before}{number}")?;
+    match following(system, p, first, at) {
+        Some(next) => push_waiting(out, system, p, first, most - 1, next),
+        None => out.push_str("]"),
+    }
 }
