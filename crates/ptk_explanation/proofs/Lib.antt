@@ -3,6 +3,7 @@ pub mod Leasts
 pub mod Begins
 pub mod Reading
 pub mod Looks
+pub mod Sinces
 pub mod Objects
 pub mod Arrays
 pub mod Told

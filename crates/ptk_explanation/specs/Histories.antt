@@ -1,5 +1,5 @@
 -- Since when a thread does what it does, as it is seen at a partition's decisions.
-use Rattle.std.specs.Prelude.{◌≡◌, ℕ, ◌+◌, ◌<◌, Bool, List, length, min, if◌then◌else◌, Option, Some, None, slice_index_or}
+use Rattle.std.specs.Prelude.{◌≡◌, ℕ, ◌+◌, ◌<◌, ◌≤◌, Bool, true, false, List, length, min, if◌then◌else◌, Option, Some, None, slice_index_or}
 use Rattle.ptk_words.specs.Names.{Pointer, ThreadNumber, Tick, Word}
 use Rattle.ptk_words.specs.declared.TheConstants.{SP, THREAD_LIMIT}
 use Rattle.ptk_words_model.specs.State.{Part}
@@ -7,6 +7,7 @@ use Rattle.ptk_main_runs.specs.Activity.{Activity}
 use Rattle.ptk_main_runs.specs.Activity.TheVariants.{Free, Running, Ready, Blocked, Ended, Halted}
 use Rattle.ptk_main_runs.specs.Activities.{activity_in}
 use Rattle.ptk_main_runs.specs.Told.{register_in}
+use Rattle.ptk_main_runs.specs.World.{World, at_tick, state_of}
 use Rattle.ptk_explanation.specs.declared.history.History.{History}
 
 -- of a number that no thread ever had (own)
@@ -42,3 +43,24 @@ abbrev pub AreLooked : (Activity → Activity → Bool) → Part → Tick → Li
 AreLooked is_same s tick before after =
     (place : ℕ) (default : History) → place < length before → place < THREAD_LIMIT →
     slice_index_or after place default ≡ looked is_same s (place + 1) tick (slice_index_or before place default)
+
+-- ---- since when
+
+-- at a tick of a run the thread of a number does this (own)
+abbrev pub is_at : (Activity → Activity → Bool) → World → ℕ → ThreadNumber → Tick → Activity → Bool
+is_at is_same world p t tick activity = is_same (activity_in t (state_of (at_tick tick world) p).part) activity
+
+-- at a tick of a run the thread of a number does what its history says, and has done so behind each decision from the history's tick on; before that decision it did something else, unless it is the first (own)
+pub record IsSince (is_same : Activity → Activity → Bool) (world : World) (p t tick : ℕ) (history : History) : Type 0 where
+  pub does : is_at is_same world p t tick history.activity ≡ true
+  pub since : (k : ℕ) → history.since < k → k ≤ tick → is_at is_same world p t k history.activity ≡ true
+  pub other : 0 < history.since → is_at is_same world p t history.since history.activity ≡ false
+
+-- so says each history of the thread of its number, for so many as a partition has at most (own)
+abbrev pub AreSince : (Activity → Activity → Bool) → World → ℕ → Tick → List History → Type 0
+AreSince is_same world p tick histories =
+    (place : ℕ) (default : History) → place < length histories → place < THREAD_LIMIT → IsSince is_same world p (place + 1) tick (slice_index_or histories place default)
+
+-- no history has begun (own)
+abbrev pub AreNew : List History → Type 0
+AreNew histories = (place : ℕ) (default : History) → place < length histories → (slice_index_or histories place default).since ≡ 0

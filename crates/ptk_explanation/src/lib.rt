@@ -14,13 +14,14 @@
 //!   for the owner of a mutex or for the end of a thread, and without a deadline (`is_deadlocked`, `blocker`). A cycle
 //!   is named once, from its least number on (`begins_cycle`).
 //! - The JSON object is made of these values, each under its key, and has no other member (`json`: `IsExplanation`).
-//!   The word of the status, and since when a thread does what it does, are in no clause.
+//!   The word of the status, and since when a thread does what it does, are not in that clause.
 //!
 //! A history of a thread is what was seen of it at the partition's decisions, each time by `looked`, over the run of
-//! `run_to` (`histories`). The lines of text are tested (`ptk_main_tests`); they are made of the same values. A fault
-//! of the request comes before the first byte, one of the writer at any. Below are the system (`ptk_system`), the types
-//! of instructions (`ptk_rv32i_code`), symbols (`ptk_symbols`) and the statement of a word (`ptk_disasm`); the program
-//! is above.
+//! `run_to` (`histories`): what the thread does in the end it has done since the decision that its history names
+//! (`since`). The lines of text are tested (`ptk_main_tests`); they are made of the same values. A fault of the request
+//! comes before the first byte, one of the writer at any. Below are the system (`ptk_system`), the types of
+//! instructions (`ptk_rv32i_code`), symbols (`ptk_symbols`) and the statement of a word (`ptk_disasm`); the program is
+//! above.
 
 mod answer;
 mod cycles;

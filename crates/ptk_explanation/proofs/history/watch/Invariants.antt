@@ -1,5 +1,8 @@
 use Rattle.std.proofs.Common.{◌≡◌, ◌-◌, ◌<◌, ◌≤◌, length, max}
+use Rattle.ptk_main_runs.below.ptk_system.specs.contracts.activity.ActivityPartialEq.TheImpl as activity_eq
 use Rattle.ptk_main_runs.specs.World.{at_tick}
+use Rattle.ptk_explanation.specs.Histories.{AreNew}
+use Rattle.ptk_explanation.proofs.Sinces.{AreSeen}
 use Rattle.ptk_explanation.proofs.history.watch.Given as goal
 
 abbrev pub invariant-loop-tick : goal.invariant-loop-tick
@@ -9,6 +12,9 @@ invariant-loop-tick l = record {
   run : l.system ≡ at_tick l.system.tick l.initial.system;
   from : l.initial.system.tick ≤ l.system.tick;
   to : l.system.tick ≤ max l.initial.system.tick l.to;
+  behind : l.system.tick ≤ l.tick;
+  end : l.tick ≤ max l.initial.system.tick l.to;
+  seen : l.initial.system.tick ≡ 0 → AreNew l.initial.histories → AreSeen (activity_eq.ghosts).eq l.initial.system l.p l.tick l.histories;
 }
 
 abbrev pub decreases-loop-tick : goal.decreases-loop-tick
