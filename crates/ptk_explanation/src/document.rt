@@ -7,7 +7,7 @@ ghost use Rattle.ptk_main_runs.specs.World.{section_at, state_of};
 ghost use Rattle.ptk_explanation.specs.Deadlocks.{cycle_from};
 ghost use Rattle.ptk_explanation.specs.Members.{shown_members};
 ghost use Rattle.ptk_explanation.specs.Objects.{IsBody, IsDeadlocksText, IsDocument, IsGoing, begun_text, ceiling_awaited, cycle_data, head_text, number_items, offset_at, owner_awaited, protocol_awaited, registers_text, stop_members, stop_text, stopped_text, symbol_at, text_in, thread_data, thread_members, threads_text, type_awaited, used_text};
-ghost use Rattle.ptk_explanation.specs.Standing.{standing_of};
+ghost use Rattle.ptk_explanation.specs.Standing.{standing_of, word_of_standing};
 ghost use Rattle.ptk_explanation.specs.Stops.{said_of, stop_in};
 
 use crate::cycles::{begins_cycle, following};
@@ -17,7 +17,7 @@ use crate::members::{Member, MemberValue, comma_unless, push_members, push_text}
 use crate::status::standing;
 use crate::target::Target;
 use crate::words::{ceiling_of, policy_name, protocol_name, type_name};
-use ptk_main_runs::{PartStatus, System, cause_word, status_word};
+use ptk_main_runs::{PartStatus, System, cause_word};
 use ptk_symbols::Symbols;
 use ptk_words::{Cause, Cpu, Owner, PartId, ThreadNo};
 use std::alloc::{AllocError, Global};
@@ -111,10 +111,16 @@ impl MutexMembers {
     }
 }
 
-/// The word of a status, None where the partition has no image.
-fn word_of(status: Option<PartStatus>) -> &'static str {
+/// The word of a status, as a report begins it, None where the partition has no image.
+fn word_of(status: Option<PartStatus>) -> &'static str
+    ensures { result.now ≡ word_of_standing status }
+{
     match status {
-        Some(status) => status_word(status),
+        Some(PartStatus::Idle) => "idle",
+        Some(PartStatus::Running) => "running",
+        Some(PartStatus::Exited(_)) => "exit",
+        Some(PartStatus::Stopped(_, _)) => "fault",
+        Some(PartStatus::Refused(_)) => "refused",
         None => "no image",
     }
 }

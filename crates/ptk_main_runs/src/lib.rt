@@ -21,4 +21,4 @@ pub use fault::PutFault;
 pub use members::{Value, put_members, put_object};
 pub use ptk_system::{Activity, BootFault, Files, MutexState, PartStatus, System};
 pub use runs::{RunFault, part_named, run_with, trace_with};
-pub use words::{cause_word, status_word};
+pub use words::cause_word;

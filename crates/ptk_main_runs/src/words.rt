@@ -3,19 +3,7 @@
 ghost use Rattle.std.specs.Prelude.{◌≡◌};
 ghost use Rattle.ptk_words_model.specs.Text.{cause_text};
 
-use ptk_system::PartStatus;
 use ptk_words::{Cause, FaultKind};
-
-/// The word with which a report begins a status.
-pub fn status_word(status: PartStatus) -> &'static str {
-    match status {
-        PartStatus::Idle => "idle",
-        PartStatus::Running => "running",
-        PartStatus::Exited(_) => "exit",
-        PartStatus::Stopped(_, _) => "fault",
-        PartStatus::Refused(_) => "refused",
-    }
-}
 
 /// The word of a cause, as the report spells it.
 pub fn cause_word(cause: Cause) -> &'static str

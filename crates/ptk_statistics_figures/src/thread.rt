@@ -126,6 +126,7 @@ impl ThreadStatistics {
     }
 
     /// The greatest time from ready to running, where it does this from a moment on.
+    #[inline(always)]
     fn dispatch_at_turn(&self, doing: Doing, at: Moment) -> Span
         ensures { result ≡ dispatch_at_turn doing at self.now }
     {
@@ -138,6 +139,7 @@ impl ThreadStatistics {
     }
 
     /// The activations, where it does this from a moment on: the one that is under way, if one is, ends with a wait.
+    #[inline(always)]
     fn activations_at_turn(&self, doing: Doing, at: Moment) -> Spread
         ensures { result ≡ activations_at_turn doing at self.now }
     {
@@ -155,6 +157,7 @@ impl ThreadStatistics {
     }
 
     /// When the activation began that is under way, where it does this from a moment on.
+    #[inline(always)]
     fn woken_at_turn(&self, doing: Doing, at: Moment) -> Option<Moment>
         ensures { result ≡ woken_at_turn doing at self.now }
     {

@@ -11,6 +11,9 @@ pub mod Marked
 pub mod OwnWindows
 pub mod Lanes
 pub mod Recordings
+pub use Rattle.ptk_words_windows.specs.Windows
+pub use Rattle.ptk_system.specs.Activities
 pub use Rattle.ptk_system.specs.Shown
+pub use Rattle.ptk_system.specs.Told
 pub use Rattle.ptk_system.specs.World
 pub use Rattle.ptk_system.specs.declared.status.PartStatus
