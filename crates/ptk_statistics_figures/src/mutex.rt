@@ -41,7 +41,6 @@ impl MutexStatistics {
     }
 
     /// The longest time that one thread owned it up to a moment.
-    #[inline(always)]
     fn held_until(&self, at: Moment) -> Option<Longest>
         ensures { result ≡ held_with self.now.owner self.now.since at self.now.held }
     {

@@ -107,12 +107,10 @@ impl ThreadStatistics {
     pub fn turn_to(&mut self, doing: Doing, at: Moment)
         ensures { self.new ≡ turned doing at self.old }
     {
-        let dispatch = self.dispatch_at_turn(doing, at);
-        let activations = self.activations_at_turn(doing, at);
         let woken = self.woken_at_turn(doing, at);
+        self.end_dispatch(doing, at);
+        self.end_activation(doing, at);
         self.pass(at);
-        self.dispatch = dispatch;
-        self.activations = activations;
         self.woken = woken;
         self.doing = doing;
         self.since = at;
@@ -125,34 +123,26 @@ impl ThreadStatistics {
         self.spans[self.doing.place()].add(at.since(self.since));
     }
 
-    /// The greatest time from ready to running, where it does this from a moment on.
+    /// Its time from ready to running ends at a moment, where it runs from then on.
     #[inline(always)]
-    fn dispatch_at_turn(&self, doing: Doing, at: Moment) -> Span
-        ensures { result ≡ dispatch_at_turn doing at self.now }
+    fn end_dispatch(&mut self, doing: Doing, at: Moment)
+        ensures { self.new ≡ record self.old { dispatch = dispatch_at_turn doing at self.old } }
     {
-        if !self.doing.is_dispatch(doing) {
-            return self.dispatch;
+        if self.doing.is_dispatch(doing) {
+            self.dispatch.raise(at.since(self.since));
         }
-        let mut dispatch = self.dispatch;
-        dispatch.raise(at.since(self.since));
-        dispatch
     }
 
-    /// The activations, where it does this from a moment on: the one that is under way, if one is, ends with a wait.
+    /// The activation that is under way, if one is, ends at a moment, where it waits from then on.
     #[inline(always)]
-    fn activations_at_turn(&self, doing: Doing, at: Moment) -> Spread
-        ensures { result ≡ activations_at_turn doing at self.now }
+    fn end_activation(&mut self, doing: Doing, at: Moment)
+        ensures { self.new ≡ record self.old { activations = activations_at_turn doing at self.old } }
     {
         if !self.doing.is_block(doing) {
-            return self.activations;
+            return;
         }
-        let mut activations = self.activations;
-        match self.woken {
-            Some(woken) => {
-                activations.add(at.since(woken), woken.tick);
-                activations
-            }
-            None => activations,
+        if let Some(woken) = self.woken {
+            self.activations.add(at.since(woken), woken.tick);
         }
     }
 
