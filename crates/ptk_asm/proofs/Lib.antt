@@ -13,3 +13,5 @@ pub mod Inside
 pub mod Texts
 pub mod Faults
 pub mod Images
+pub mod Hexadecimal
+pub mod Tables

@@ -2,3 +2,4 @@ pub mod Emitting
 pub mod Whole
 pub mod Laws
 pub mod Passing
+pub mod Symbols

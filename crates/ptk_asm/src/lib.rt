@@ -7,7 +7,8 @@
 //!   directive decode to the instructions written (`words`).
 //! - An error for another cause than memory is the source's first fault, with its line and its exact bytes (`fault`:
 //!   `Tells`).
-//! - Of `label_table` only this last is proved; its lines are tested.
+//! - `label_table`: `Ok` has a line for each label of the source and no other, by address and then by name (`table`:
+//!   `IsLabelTable`); an error is the first fault of the first pass (`fault`).
 //! - `instructions_of` and `push_statement` are one equation each with the definitions, for any registers and any
 //!   number: `push_statement` appends exactly the bytes that a statement means (`bytes`), and the words of a statement
 //!   that is not a directive decode to its instructions (`words`).

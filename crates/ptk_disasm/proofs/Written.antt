@@ -1,18 +1,16 @@
 -- What is written so far, a line at a time.
-use Rattle.std.proofs.Common.{◌≡◌, ℕ, ◌<◌, ◌≤◌, ◌+◌, ◌-◌, ◌*◌, pos, take, drop, length-drop, List, [], ◌∷◌, ◌++◌, length, replicate, refl, sym, ap, subst, Option, Some, ◌∙◌, append_assoc, arith, true, false, suc, ◌^◌}
+use Rattle.std.proofs.Common.{◌≡◌, ℕ, ◌<◌, ◌≤◌, ◌+◌, ◌-◌, ◌*◌, pos, take, drop, length-drop, List, [], ◌∷◌, ◌++◌, length, refl, sym, ap, ◌∙◌, append_assoc, arith, true, suc}
 use Rattle.std.proofs.Math.ListN.{get_or}
 use Rattle.std.specs.List.{list_all}
 use Rattle.std.proofs.lemmas.Bool.Decides.{nat_tests}
-use Rattle.std.specs.Prelude.{option_map}
 use Rattle.std.specs.Int.{w32, from_le_bytes}
 use Rattle.std.proofs.lemmas.List.{take_rest}
 use Rattle.ptk_asm_language.specs.declared.statement.Form.TheVariants as form
 use Rattle.ptk_disasm.specs.WordStatements.{given}
-use Rattle.std.specs.Fmt.{digits, padded_integral, format_spec, char_count, AppendsText}
 use Rattle.std.proofs.lemmas.Grind.{flat_map-append}
-use Rattle.std.proofs.lemmas.List.{append-nil}
+pub use Rattle.ptk_asm.proofs.Hexadecimal.{hex-eight, shape-appended}
 use Rattle.ptk_disasm.specs.Spelling.{Line, line_text}
-use Rattle.ptk_disasm.specs.Disassembly.{padded_hex, addressed, text_for, data_lines, is_byte}
+use Rattle.ptk_disasm.specs.Disassembly.{addressed, text_for, data_lines, is_byte}
 
 -- the first of the lines that are left
 pub line-more : (out : List ℕ) (l : Line) (later : List Line) → (out ++ text_for (l ∷ [])) ++ text_for later ≡ out ++ text_for (l ∷ later)
@@ -39,21 +37,6 @@ pub data-length : (at total : ℕ) (rest : List ℕ) → 4 ≤ length rest → a
 data-length at total rest h e =
     let same : length (take (length rest - 4) (drop 4 rest)) ≡ length rest - 4 = ap length (take_rest rest 4) ∙ length-drop 4 rest in
     omega (arith, same, h, e)
-
--- what `{:08x}` writes
-pub hex-eight : (n : ℕ) → padded_integral (format_spec 32 0 4 8 (2 ^ 64 - 1)) false [] (digits 16 false n) ≡ padded_hex n
-unfolding padded_integral char_count
-hex-eight n =
-    let same : 8 - length (digits 16 false n) - 0 - 0 ≡ 8 - length (digits 16 false n) = omega arith in
-    ap (λ (k : ℕ). replicate k 48 ++ (digits 16 false n ++ [])) same
-    ∙ ap (λ (t : List ℕ). replicate (8 - length (digits 16 false n)) 48 ++ t) (append-nil (digits 16 false n))
-
--- a text that gained what a shape makes of digits
-pub shape-appended : {S : Type 0} (s t : S) (shape : S → List ℕ → List ℕ) (o : Option (List ℕ)) (ds shown old new : List ℕ) → s ≡ t → o ≡ Some ds → shape t ds ≡ shown
-    → AppendsText old new (option_map (shape s) o) → new ≡ old ++ shown
-shape-appended s t shape o ds shown old new e f g h =
-    let same : option_map (shape s) o ≡ Some shown = ap (λ x. option_map (shape x) o) e ∙ ap (option_map (shape t)) f ∙ ap (λ (x : List ℕ). Some x) g in
-    subst (AppendsText old new) same h
 
 -- ---- bytes
 

@@ -1,7 +1,6 @@
 -- The source that an image is read back to.
-use Rattle.std.specs.Prelude.{ℕ, ◌+◌, ◌-◌, ◌≤◌, ◌≡◌, Bool, true, false, not, List, [], ◌∷◌, ◌++◌, length, replicate, flat_map, ◌==◌, if◌then◌else◌, Option, Some, None, pos, Ok, codes, nat_lt}
+use Rattle.std.specs.Prelude.{ℕ, ◌+◌, ◌≤◌, ◌≡◌, Bool, true, not, List, [], ◌∷◌, ◌++◌, length, flat_map, ◌==◌, if◌then◌else◌, Option, Some, None, pos, Ok, codes, nat_lt}
 use Rattle.std.specs.Int.{w32, from_le_bytes}
-use Rattle.std.specs.Fmt.{digits}
 use Rattle.std.specs.List.{concat, list_all}
 use Rattle.ptk_symbols.specs.Tables.{name_text, place_text}
 use Rattle.ptk_words.specs.Words.{word_of, sign_extension}
@@ -14,14 +13,11 @@ use Rattle.ptk_asm_language.specs.declared.statement.Section.TheVariants as sect
 use Rattle.ptk_asm_language.specs.declared.statement.Form.TheVariants as form
 use Rattle.ptk_asm_language.specs.Source.{Statement, longest, source}
 use Rattle.ptk_asm.specs.Emitting.{words_in}
+pub use Rattle.ptk_asm.specs.Symbols.{padded_hex}
 use Rattle.ptk_disasm.specs.Spelling.{Line, Entry, Stated, line_text}
 use Rattle.ptk_disasm.specs.WordStatements.{bare, given, statement_for}
 
 -- ---- comments
-
--- the digits of a number to base 16, with zeros before them up to eight (own)
-abbrev pub padded_hex : ℕ → List ℕ
-padded_hex n = let shown : List ℕ = digits 16 false n in replicate (8 - length shown) 48 ++ shown
 
 -- a statement with its address (own)
 abbrev pub addressed : ℕ → Statement → Line

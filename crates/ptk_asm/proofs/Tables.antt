@@ -1,0 +1,54 @@
+-- The table of a source's labels.
+use Rattle.std.proofs.Common.{◌≡◌, ℕ, Bool, true, false, List, [], ◌∷◌, map, Some, refl, sym, ap, subst, ◌∙◌, arith, Contains}
+use Rattle.std.specs.Prelude.{option_map}
+use Rattle.std.specs.Str.{bytes_eq}
+use Rattle.std.specs.Map.{lookup}
+use Rattle.std.proofs.lemmas.Slice.Eq.{bytes_eq-Decides}
+use Rattle.std.proofs.lemmas.Option.{none-some}
+use Rattle.std.proofs.lemmas.List.Sorted.{All-permutation, Contains-permutation, IsPermutation-map}
+use Rattle.std.proofs.lemmas.List.Elements.{All-map, All-weaker, Contains-append_right}
+use denote.Ref.{Bor}
+use Rattle.ptk_asm_language.specs.declared.place.Place.{Place}
+use Rattle.ptk_asm_language.specs.declared.place.Lengths.{Lengths}
+use Rattle.ptk_asm_language.specs.Statements.{named}
+use Rattle.ptk_asm_language.specs.Source.{layout_of}
+use Rattle.ptk_asm.specs.declared.layout.Layout as code
+use Rattle.ptk_asm.specs.declared.symbols.Symbol.{Symbol}
+use Rattle.ptk_asm.specs.Passing.{IsLaidOut, place_named}
+use Rattle.ptk_asm.specs.Symbols.{AreFound, IsLabelTable, IsOf, IsTable, symbol_at}
+
+by_test : (b : Bool) (q : List ℕ) (l : Bor (List ℕ) × Place) (labels : List (Bor (List ℕ) × Place)) (place : Place) → bytes_eq q l.0.now ≡ b
+    → (lookup (λ k. bytes_eq q k.now) labels ≡ Some place → Contains (map (λ (l : Bor (List ℕ) × Place). l.0.now) labels) q)
+    → lookup (λ k. bytes_eq q k.now) (l ∷ labels) ≡ Some place → Contains (map (λ (l : Bor (List ℕ) × Place). l.0.now) (l ∷ labels)) q
+by_test true q l labels place e later h = (0, omega arith, sym ((bytes_eq-Decides q l.0.now).0 e))
+by_test false q l labels place e later h = Contains-append_right (l.0.now ∷ []) (map (λ (l : Bor (List ℕ) × Place). l.0.now) labels) q (later (rw e at h))
+
+-- a label that is found by a name has it
+named_in : (q : List ℕ) (labels : List (Bor (List ℕ) × Place)) (place : Place) → lookup (λ k. bytes_eq q k.now) labels ≡ Some place → Contains (map (λ (l : Bor (List ℕ) × Place). l.0.now) labels) q
+named_in q [] place h = absurd (none-some place h)
+named_in q (l ∷ labels) place h = by_test (bytes_eq q l.0.now) q l labels place refl (named_in q labels place) h
+
+-- the names of the labels at their addresses
+names_of : (lengths : Lengths) (labels : List (Bor (List ℕ) × Place)) → map (λ (s : Symbol). s.name.now) (map (symbol_at lengths) labels) ≡ map (λ (l : Bor (List ℕ) × Place). l.0.now) labels
+names_of lengths [] = refl
+names_of lengths (l ∷ labels) = ap (λ names. l.0.now ∷ names) (names_of lengths labels)
+
+-- what the code's map of a layout holds, as the labels of the source
+pub label_table : (source text : List ℕ) (l : code.Layout) → IsLaidOut source l → AreFound l.labels → IsTable l.lengths l.labels.entries text → IsLabelTable source text
+label_table source text l (before, (reaches, laid_out)) found (rows, same, order, is) =
+    let layout = layout_of before in
+    let lengths : l.lengths ≡ layout.lengths = reaches.shows.lengths in
+    let placed : (label : Bor (List ℕ) × Place) → place_named l.labels label.0.now ≡ Some label.1 → IsOf layout (symbol_at l.lengths label) =
+    λ label h. subst (λ lens. option_map (λ place. symbol_at layout.lengths (label.0, place)) (named layout.labels label.0.now) ≡ Some (symbol_at lens label)) (sym lengths)
+    (ap (option_map (λ place. symbol_at layout.lengths (label.0, place))) (sym (reaches.shows.labels label.0.now) ∙ h)) in
+    let names : List Symbol → List (List ℕ) = map (λ (s : Symbol). s.name.now) in
+    record {
+      layout = layout;
+      laid_out = laid_out;
+      rows = rows;
+      each = All-permutation (IsOf layout) _ rows same (All-map (IsOf layout) (symbol_at l.lengths) l.labels.entries (All-weaker _ _ placed l.labels.entries found));
+      every = λ name place h. Contains-permutation (names (map (symbol_at l.lengths) l.labels.entries)) (names rows) name (IsPermutation-map (λ (s : Symbol). s.name.now) _ rows same)
+          (subst (λ xs. Contains xs name) (sym (names_of l.lengths l.labels.entries)) (named_in name l.labels.entries place (reaches.shows.labels name ∙ h)));
+      order = order;
+      is = is;
+    }
