@@ -5,4 +5,4 @@ use Rattle.ptk_main_tools.proofs.assembling.put_labels.Goals as goal
 
 pub returns-in-Err : goal.returns-in-Err
 returns-in-Err c =
-    subst (IsAsmFault c.args.text.now) (sym c.fault_of.ensures) (inr (source_refused c.args.text.now c.in-Err.fault c.in-Err.ensures))
+    subst (IsAsmFault c.args.text.now) (sym c.fault_of.ensures) (inr (source_refused c.args.text.now c.in-Err.fault c.in-Err.ensures.fault))
