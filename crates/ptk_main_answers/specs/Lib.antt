@@ -3,6 +3,7 @@ pub mod Refusals
 pub mod Answers
 pub mod Expectations
 pub mod Decoded
+pub mod Replies
 pub mod HostFaults
 pub mod Json
 pub mod Documents

@@ -2,6 +2,7 @@
 
 ghost use Rattle.std.specs.Prelude.{◌≡◌, ◌<◌, ◌≤◌, ◌^◌, IfSome, length};
 ghost use Rattle.ptk_words.specs.declared.TheConstants.{LAST_TICK};
+ghost use Rattle.ptk_main_answers.specs.Decoded.{word_in};
 
 use ptk_asm_language::magnitude;
 use ptk_words::{Entry, LAST_TICK, THREAD_LIMIT, ThreadNo, Tick};
@@ -10,7 +11,9 @@ use ptk_words::{Entry, LAST_TICK, THREAD_LIMIT, ThreadNo, Tick};
 const BLANK: u8 = b' ';
 
 /// The word that a text spells; `None` where it spells no number or a greater one.
-fn word_of(text: &[u8]) -> Option<u32> {
+fn word_of(text: &[u8]) -> Option<u32>
+    ensures { result ≡ word_in text.now }
+{
     u32::try_from(magnitude(text)?).ok()
 }
 

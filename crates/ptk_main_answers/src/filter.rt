@@ -20,7 +20,9 @@ pub struct Filter {
 
 impl Filter {
     /// Every step.
-    pub fn all() -> Filter {
+    pub fn all() -> Filter
+        ensures { result ≡ is.every_step }
+    {
         Filter {
             thread: None,
             is_calls_only: false,

@@ -1,36 +1,70 @@
 //! The names of replies.
 
+ghost use Rattle.std.specs.Prelude.{◌≡◌, option_map, ◌==◌, if◌then◌else◌, Some, codes};
+ghost use Rattle.ptk_main_answers.specs.Replies.{error_of, name_of_error};
+
 use ptk_words::Errno;
 
 /// What a call replies where it succeeds.
 const SUCCESS: u32 = 0;
 
-/// The errors that a call replies, by the names of errno.h.
-const ERRORS: [(Errno, &str); 13] = [
-    (Errno::EPERM, "EPERM"),
-    (Errno::ESRCH, "ESRCH"),
-    (Errno::EAGAIN, "EAGAIN"),
-    (Errno::ENOMEM, "ENOMEM"),
-    (Errno::EFAULT, "EFAULT"),
-    (Errno::EBUSY, "EBUSY"),
-    (Errno::EINVAL, "EINVAL"),
-    (Errno::EDEADLK, "EDEADLK"),
-    (Errno::ENOSYS, "ENOSYS"),
-    (Errno::ENOTSUP, "ENOTSUP"),
-    (Errno::ETIMEDOUT, "ETIMEDOUT"),
-    (Errno::EOWNERDEAD, "EOWNERDEAD"),
-    (Errno::ENOTRECOVERABLE, "ENOTRECOVERABLE"),
+/// The errors that a call replies.
+const ERRORS: [Errno; 13] = [
+    Errno::EPERM,
+    Errno::ESRCH,
+    Errno::EAGAIN,
+    Errno::ENOMEM,
+    Errno::EFAULT,
+    Errno::EBUSY,
+    Errno::EINVAL,
+    Errno::EDEADLK,
+    Errno::ENOSYS,
+    Errno::ENOTSUP,
+    Errno::ETIMEDOUT,
+    Errno::EOWNERDEAD,
+    Errno::ENOTRECOVERABLE,
 ];
 
 /// The name of a reply: `0`, or that of an error. `None` for a number that no call replies.
-pub(crate) fn reply_name(reply: u32) -> Option<&'static str> {
+pub(crate) fn reply_name(reply: u32) -> Option<&'static str>
+    ensures { option_map (λ name. name.now) result ≡ (if reply == 0 then Some (codes "0") else option_map name_of_error (error_of reply)) }
+{
     if reply == SUCCESS {
         return Some("0");
     }
-    for (error, name) in &ERRORS {
-        if error.number() == reply {
-            return Some(*name);
-        }
+    match error_of(reply) {
+        Some(error) => Some(error_name(error)),
+        None => None,
     }
-    None
+}
+
+/// The error of a number, `None` where none has it.
+fn error_of(number: u32) -> Option<Errno>
+    ensures { result ≡ error_of number }
+{
+    ERRORS
+        .iter()
+        .copied()
+        .find(|error| error.number() == number)
+}
+
+/// The name of an error (errno.h).
+fn error_name(error: Errno) -> &'static str
+    ensures { result.now ≡ name_of_error error }
+{
+    match error {
+        Errno::EPERM => "EPERM",
+        Errno::ESRCH => "ESRCH",
+        Errno::EAGAIN => "EAGAIN",
+        Errno::ENOMEM => "ENOMEM",
+        Errno::EFAULT => "EFAULT",
+        Errno::EBUSY => "EBUSY",
+        Errno::EINVAL => "EINVAL",
+        Errno::EDEADLK => "EDEADLK",
+        Errno::ENOSYS => "ENOSYS",
+        Errno::ENOTSUP => "ENOTSUP",
+        Errno::ETIMEDOUT => "ETIMEDOUT",
+        Errno::EOWNERDEAD => "EOWNERDEAD",
+        Errno::ENOTRECOVERABLE => "ENOTRECOVERABLE",
+    }
 }

@@ -2,7 +2,9 @@
 
 ghost use Rattle.std.specs.Prelude.{◌≡◌, ◌<◌, ◌++◌, OnOk, length, string_bytes};
 ghost use Rattle.ptk_words.specs.declared.TheConstants.{LAST_TICK};
+ghost use Rattle.ptk_main_runs.specs.World.{state_of};
 ghost use Rattle.ptk_main_answers.specs.Decoded as is;
+ghost use Rattle.ptk_main_answers.specs.Replies.{call_text, made_text, number_text, reply_in, reply_text, step_words};
 
 use crate::replies::reply_name;
 use ptk_disasm::{push_target, push_word_statement, target_of};
@@ -45,7 +47,9 @@ fn push_decoded(
 }
 
 /// Appends the name of a call, or its number where no call has it.
-fn push_call(text: &mut String, number: Option<u32>) -> Result<(), AllocError> {
+fn push_call(text: &mut String, number: Option<u32>) -> Result<(), AllocError>
+    ensures { OnOk result (string_bytes text.new ≡ string_bytes text.old ++ call_text number) }
+{
     let Some(number) = number else {
         return Ok(());
     };
@@ -59,17 +63,26 @@ fn push_call(text: &mut String, number: Option<u32>) -> Result<(), AllocError> {
 }
 
 /// Appends what a call replied, by its name where it has one.
-fn push_reply(text: &mut String, reply: Reply) -> Result<(), AllocError> {
+fn push_reply(text: &mut String, reply: Reply) -> Result<(), AllocError>
+    ensures { OnOk result (string_bytes text.new ≡ string_bytes text.old ++ reply_text reply) }
+{
     match reply {
         Reply::Of(a0) => {
             text.push_str(" -> ")?;
-            match reply_name(a0) {
-                Some(name) => text.push_str(name),
-                None => write!(text, "{a0}"),
-            }
+            push_number(text, a0)
         }
         Reply::Blocked => text.push_str(" blocked"),
         Reply::Never => Ok(()),
+    }
+}
+
+/// Appends what a call left in a0, by its name where it has one.
+fn push_number(text: &mut String, a0: u32) -> Result<(), AllocError>
+    ensures { OnOk result (string_bytes text.new ≡ string_bytes text.old ++ number_text a0) }
+{
+    match reply_name(a0) {
+        Some(name) => text.push_str(name),
+        None => write!(text, "{a0}"),
     }
 }
 
@@ -77,6 +90,7 @@ fn push_reply(text: &mut String, reply: Reply) -> Result<(), AllocError> {
 /// halted, and where it does not go on behind the ECALL.
 fn reply_of(system: &System<'_>, p: PartId, entry: &Entry) -> Reply
     requires { p < length system.now.config.sections }
+    ensures { result ≡ reply_in entry.now (state_of system.now p).part }
 {
     match system.activity(p, entry.thread) {
         Activity::Blocked(_) => Reply::Blocked,
@@ -101,7 +115,8 @@ fn push_made_call(
 ) -> Result<(), AllocError>
     requires partition { p < length system.old.config.sections }
     requires early { entry.now.tick < LAST_TICK }
-    ensures { system.new.config ≡ system.old.config }
+    ensures same { system.new.config ≡ system.old.config }
+    ensures call { OnOk result (string_bytes text.new ≡ string_bytes text.old ++ made_text system.old p entry.now) }
 {
     system.run_to(entry.tick);
     push_call(text, system.register(p, entry.thread, A7))?;
@@ -119,7 +134,8 @@ pub(crate) fn push_step(
 ) -> Result<(), AllocError>
     requires partition { p < length system.old.config.sections }
     requires early { entry.now.tick < LAST_TICK }
-    ensures { system.new.config ≡ system.old.config }
+    ensures same { system.new.config ≡ system.old.config }
+    ensures step { OnOk result (string_bytes text.new ≡ string_bytes text.old ++ step_words system.old p symbols.now entry.now) }
 {
     push_decoded(text, symbols, entry.pc, entry.word)?;
     if entry.word == ECALL && entry.pc != RETURN_GATE {
