@@ -38,7 +38,7 @@ looked is_same s t tick history =
       least_stack = lesser (least_before (activity_in t s) history.least_stack) (register_in t SP s);
     }
 
--- after the decision at a tick each history is what is seen then of the thread of its number, for so many as a partition has at most (own)
+-- after the decision at a tick each history is what is seen then of the thread of its number, for the first THREAD_LIMIT histories, since a partition has no more threads (own)
 abbrev pub AreLooked : (Activity → Activity → Bool) → Part → Tick → List History → List History → Type 0
 AreLooked is_same s tick before after =
     (place : ℕ) (default : History) → place < length before → place < THREAD_LIMIT →
@@ -56,7 +56,7 @@ pub record IsSince (is_same : Activity → Activity → Bool) (world : World) (p
   pub since : (k : ℕ) → history.since < k → k ≤ tick → is_at is_same world p t k history.activity ≡ true
   pub other : 0 < history.since → is_at is_same world p t history.since history.activity ≡ false
 
--- so says each history of the thread of its number, for so many as a partition has at most (own)
+-- so says each history of the thread of its number, for the first THREAD_LIMIT histories, since a partition has no more threads (own)
 abbrev pub AreSince : (Activity → Activity → Bool) → World → ℕ → Tick → List History → Type 0
 AreSince is_same world p tick histories =
     (place : ℕ) (default : History) → place < length histories → place < THREAD_LIMIT → IsSince is_same world p (place + 1) tick (slice_index_or histories place default)
