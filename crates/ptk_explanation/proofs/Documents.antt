@@ -15,7 +15,7 @@ use Rattle.ptk_explanation.specs.declared.history.History.{History}
 use Rattle.ptk_explanation.specs.Facts.{live_pc}
 use Rattle.ptk_explanation.specs.Members.{object_text}
 use Rattle.ptk_explanation.specs.Objects.{IsBody, IsDeadlocksText, IsDocument, IsExplanation, IsGoing, head_text, offset_at, registers_text, stop_members, stop_text, symbol_at, text_in, thread_data, thread_members, threads_text}
-use Rattle.ptk_explanation.specs.Standing.{standing_of}
+use Rattle.ptk_explanation.specs.Standing.{standing_of, word_of_standing}
 use Rattle.ptk_explanation.specs.Stops.{Stopped}
 use Rattle.ptk_explanation.proofs.Objects.{three_pushed, two_pushed}
 
@@ -54,13 +54,14 @@ counts_text tick word steps lost =
     codes ",\"tick\":" ++ (decimal tick ++ (codes ",\"status\":\"" ++ (word ++ (codes "\",\"steps\":" ++ (decimal steps ++ (codes ",\"lost\":" ++ decimal lost))))))
 
 pub head_pushed : (world : World) (p tick steps lost : ℕ) (name word old first second new : List Byte)
-    → name ≡ (section_at world.config p).name → tick ≡ world.tick → steps ≡ (state_of world p).account.steps → lost ≡ (state_of world p).account.lost
+    → name ≡ (section_at world.config p).name → tick ≡ world.tick → word ≡ word_of_standing (standing_of (section_at world.config p) (state_of world p).part)
+    → steps ≡ (state_of world p).account.steps → lost ≡ (state_of world p).account.lost
     → first ≡ old ++ codes "{\"partition\":" → second ≡ first ++ quoted name → new ≡ second ++ counts_text tick word steps lost
-    → new ≡ old ++ head_text world p word
-head_pushed world p tick steps lost name word old first second new names ticks counts losses one two three =
+    → new ≡ old ++ head_text world p
+head_pushed world p tick steps lost name word old first second new names ticks words counts losses one two three =
     let last : decimal lost ≡ decimal (state_of world p).account.lost ++ [] = ap decimal losses ∙ sym (append-nil (decimal (state_of world p).account.lost)) in
     three_pushed (codes "{\"partition\":") (quoted name) (counts_text tick word steps lost) old first second new one two three
-    ∙ (λ k. old ++ (codes "{\"partition\":" ++ (quoted (names k) ++ (codes ",\"tick\":" ++ (decimal (ticks k) ++ (codes ",\"status\":\"" ++ (word ++ (codes "\",\"steps\":"
+    ∙ (λ k. old ++ (codes "{\"partition\":" ++ (quoted (names k) ++ (codes ",\"tick\":" ++ (decimal (ticks k) ++ (codes ",\"status\":\"" ++ (words k ++ (codes "\",\"steps\":"
     ++ (decimal (counts k) ++ (codes ",\"lost\":" ++ last k))))))))))
 
 pub going_pushed : (symbols : List (ℕ × List ℕ)) (s : Part) (histories : List History) (cycles old first new : List Byte) → IsDeadlocksText s cycles
@@ -71,14 +72,14 @@ going_pushed symbols s histories cycles old first new is one two = (
   two_pushed (threads_text symbols s histories) cycles old first new one two,
 )
 
-pub document_pushed : (symbols : List (ℕ × List ℕ)) (world : World) (p : ℕ) (histories : List History) (word body old first second new : List Byte)
+pub document_pushed : (symbols : List (ℕ × List ℕ)) (world : World) (p : ℕ) (histories : List History) (body old first second new : List Byte)
     → IsBody symbols (state_of world p).part histories (standing_of (section_at world.config p) (state_of world p).part) body
-    → first ≡ old ++ head_text world p word → second ≡ first ++ body → new ≡ second ++ codes "}\n"
+    → first ≡ old ++ head_text world p → second ≡ first ++ body → new ≡ second ++ codes "}\n"
     → (text : List Byte) × IsDocument symbols world p histories text × (new ≡ old ++ text)
-document_pushed symbols world p histories word body old first second new is one two three = (
-  head_text world p word ++ (body ++ codes "}\n"),
-  (word, body, is, refl),
-  three_pushed (head_text world p word) body (codes "}\n") old first second new one two three,
+document_pushed symbols world p histories body old first second new is one two three = (
+  head_text world p ++ (body ++ codes "}\n"),
+  (body, is, refl),
+  three_pushed (head_text world p) body (codes "}\n") old first second new one two three,
 )
 
 -- ---- an explanation

@@ -23,7 +23,7 @@ use Rattle.ptk_explanation.specs.Deadlocks.{BeginsCycle, cycle_from}
 use Rattle.ptk_explanation.specs.Facts.{facts_of, live_pc, live_stack, owner_of}
 use Rattle.ptk_explanation.specs.Histories.{no_history}
 use Rattle.ptk_explanation.specs.Members.{all_members, fact_member, members_of, number_data, number_member, object_text, text_member}
-use Rattle.ptk_explanation.specs.Standing.{standing_of}
+use Rattle.ptk_explanation.specs.Standing.{standing_of, word_of_standing}
 use Rattle.ptk_explanation.specs.Stops.{Stopped, stop_in}
 use Rattle.ptk_explanation.specs.Targets.{aim_of}
 use Rattle.ptk_explanation.specs.Words.{ceiling_in, name_of_policy, name_of_protocol, name_of_type}
@@ -186,12 +186,12 @@ IsBody symbols s histories (Some (status.Exited code)) text = text ≡ codes ",\
 IsBody symbols s histories (Some (status.Stopped cause pc)) text = text ≡ stopped_text symbols (stop_in cause s)
 IsBody symbols s histories (Some (status.Refused fault)) text = text ≡ codes ",\"image_fault\":" ++ decimal (image_fault_number fault)
 
--- the members that each partition has, with this word for its status (own)
-abbrev pub head_text : World → ℕ → List Byte → List Byte
-head_text world p word = concat (
+-- the members that each partition has (own)
+abbrev pub head_text : World → ℕ → List Byte
+head_text world p = concat (
     codes "{\"partition\":" ∷ quoted (section_at world.config p).name
     ∷ codes ",\"tick\":" ∷ decimal world.tick
-    ∷ codes ",\"status\":\"" ∷ word
+    ∷ codes ",\"status\":\"" ∷ word_of_standing (standing_of (section_at world.config p) (state_of world p).part)
     ∷ codes "\",\"steps\":" ∷ decimal (state_of world p).account.steps
     ∷ codes ",\"lost\":" ∷ decimal (state_of world p).account.lost
     ∷ [])
@@ -199,8 +199,8 @@ head_text world p word = concat (
 -- the object of a partition of a system on one line, with these histories of its threads (own)
 abbrev pub IsDocument : List (ℕ × List ℕ) → World → ℕ → List History → List Byte → Type 0
 IsDocument symbols world p histories text =
-    (word body : List Byte) × IsBody symbols (state_of world p).part histories (standing_of (section_at world.config p) (state_of world p).part) body
-    × (text ≡ head_text world p word ++ (body ++ codes "}\n"))
+    (body : List Byte) × IsBody symbols (state_of world p).part histories (standing_of (section_at world.config p) (state_of world p).part) body
+    × (text ≡ head_text world p ++ (body ++ codes "}\n"))
 
 -- the object of a partition of a system after this many ticks, with a history for each number of a thread (own)
 abbrev pub IsExplanation : List (ℕ × List ℕ) → World → ℕ → ℕ → List Byte → Type 0

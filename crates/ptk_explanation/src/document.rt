@@ -219,7 +219,7 @@ fn push_head(
     p: PartId,
 ) -> Result<(), AllocError>
     requires { p < length system.now.config.sections }
-    ensures { OnOk result ((word : List Byte) × (string_bytes out.new ≡ string_bytes out.old ++ head_text system.now p word)) }
+    ensures { OnOk result (string_bytes out.new ≡ string_bytes out.old ++ head_text system.now p) }
 {
     out.push_str("{\"partition\":")?;
     push_text(alloc, out, name_of(system, p))?;

@@ -14,7 +14,7 @@
 //!   for the owner of a mutex or for the end of a thread, and without a deadline (`is_deadlocked`, `blocker`). A cycle
 //!   is named once, from its least number on (`begins_cycle`).
 //! - The JSON object is made of these values, each under its key, and has no other member (`json`: `IsExplanation`).
-//!   The word of the status, and since when a thread does what it does, are not in that clause.
+//!   Since when a thread does what it does is not in that clause.
 //!
 //! A history of a thread is what was seen of it at the partition's decisions, each time by `looked`, over the run of
 //! `run_to` (`histories`): what the thread does in the end it has done since the decision that its history names
