@@ -1,15 +1,31 @@
--- The names of an explanation (docs/FORMATS.md, "Explanation").
-use Rattle.std.specs.Prelude.{List, Option, Some, None, codes}
-use Rattle.ptk_words.specs.Names.{Byte, Priority}
+-- The names and the words of an explanation (docs/FORMATS.md, "Explanation").
+use Rattle.std.specs.Prelude.{List, [], ◌∷◌, ◌++◌, Option, Some, None, codes, decimal, if◌then◌else◌, nat_lt}
+use Rattle.std.specs.List.{concat}
+use Rattle.ptk_words.specs.Faults.{image_fault_number}
+use Rattle.ptk_words.specs.Names.{Byte, Priority, Tick}
+use Rattle.ptk_words.specs.declared.TheConstants.{LAST_TICK}
 use Rattle.ptk_words.specs.declared.faults.Cause.{Cause}
 use Rattle.ptk_words.specs.declared.faults.Cause.TheVariants as cause
 use Rattle.ptk_words.specs.declared.faults.FaultKind.TheVariants as kind
+use Rattle.ptk_words.specs.declared.faults.ImageFault.{ImageFault}
+use Rattle.ptk_words.specs.declared.faults.ImageFault.TheVariants as image
 use Rattle.ptk_words.specs.declared.mutexes.MutexKind.{MutexKind}
 use Rattle.ptk_words.specs.declared.mutexes.MutexKind.TheVariants.{Normal, ErrorCheck, Recursive}
+use Rattle.ptk_words.specs.declared.mutexes.Owner.{Owner}
+use Rattle.ptk_words.specs.declared.mutexes.Owner.TheVariants as owner
 use Rattle.ptk_words.specs.declared.mutexes.Protocol.{Protocol}
 use Rattle.ptk_words.specs.declared.mutexes.Protocol.TheVariants.{NoProtocol, Inherit, Protect}
 use Rattle.ptk_words.specs.declared.threads.Policy.{Policy}
 use Rattle.ptk_words.specs.declared.threads.Policy.TheVariants.{Fifo, RoundRobin}
+use Rattle.ptk_words.specs.declared.threads.Wait.{Wait}
+use Rattle.ptk_words.specs.declared.threads.Wait.TheVariants.{InputWait, SleepWait, JoinWait, MutexWait, ConditionWait, RelockWait}
+use Rattle.ptk_words_model.specs.Text.{fault_text}
+use Rattle.ptk_main_runs.specs.Activity.{Activity}
+use Rattle.ptk_main_runs.specs.Activity.TheVariants as activity
+use Rattle.ptk_main_runs.specs.PartStatus.{PartStatus}
+use Rattle.ptk_main_runs.specs.PartStatus.TheVariants as status
+
+-- ---- names
 
 -- the name of a policy (XSH 2.8.4)
 abbrev pub name_of_policy : Policy → List Byte
@@ -42,3 +58,62 @@ words_of_refusal (cause.Fault kind.Fetch) = codes "at or past the end of memory"
 words_of_refusal (cause.Fault kind.Load) = codes "at or past the end of memory"
 words_of_refusal (cause.Fault kind.Store) = codes "at or past the end of memory"
 words_of_refusal (cause.Fault kind.Misaligned) = codes "misaligned"
+
+-- ---- what a thread does
+
+-- who owns a mutex, None of a number that is no mutex (pthread_mutex_lock)
+abbrev pub owner_words : Option Owner → List Byte
+owner_words None = codes ", which nobody owns"
+owner_words (Some owner.Free) = codes ", which nobody owns"
+owner_words (Some owner.Abandoned) = codes ", which nobody owns, since its owner ended with it locked"
+owner_words (Some (owner.OwnedBy t)) = concat (codes ", which thread " ∷ decimal t ∷ codes " owns" ∷ [])
+
+-- the deadline of a wait, nothing where it has none; no run reaches one above LAST_TICK (own)
+abbrev pub until_words : Option Tick → List Byte
+until_words None = []
+until_words (Some deadline) = if nat_lt LAST_TICK deadline then codes ", until a deadline that never comes" else codes ", until tick " ++ decimal deadline
+
+-- what a thread waits for, and who owns the mutex that it waits for (own)
+abbrev pub wait_words : Wait → Option Owner → List Byte
+wait_words InputWait owner = codes "waits for input"
+wait_words (SleepWait deadline) owner = codes "sleeps" ++ until_words (Some deadline)
+wait_words (JoinWait u) owner = codes "waits for the end of thread " ++ decimal u
+wait_words (MutexWait m deadline) owner = codes "waits for mutex " ++ (decimal m ++ (owner_words owner ++ until_words deadline))
+wait_words (ConditionWait c m deadline) owner =
+    codes "waits on condition variable " ++ (decimal c ++ (codes ", to have mutex " ++ (decimal m ++ (codes " again" ++ until_words deadline))))
+wait_words (RelockWait m reply) owner = codes "waits to have mutex " ++ (decimal m ++ (codes " again" ++ owner_words owner))
+
+-- what a thread does (XSH 2.8.4)
+abbrev pub activity_words : Activity → Option Owner → List Byte
+activity_words activity.Free owner = codes "free"
+activity_words activity.Running owner = codes "running"
+activity_words activity.Ready owner = codes "ready"
+activity_words (activity.Blocked wait) owner = wait_words wait owner
+activity_words activity.Ended owner = codes "ended, not joined"
+activity_words activity.Halted owner = codes "halted"
+
+-- ---- how a partition stands
+
+-- why bytes are no image, or one that does not fit (own)
+abbrev pub image_words : ImageFault → List Byte
+image_words image.Short = codes "the image is shorter than its header"
+image_words image.Magic = codes "the image does not begin with PTKI"
+image_words image.Version = codes "the image has an unknown version"
+image_words image.Length = codes "the image has other lengths than its header says"
+image_words image.Entry = codes "the entry of the image is misplaced"
+image_words image.Memory = codes "out of memory"
+image_words image.Unfit = codes "the image does not fit into its partition"
+
+-- what stopped a partition (own)
+abbrev pub stop_words : Cause → List Byte
+stop_words cause.Break = codes "stopped by an ebreak"
+stop_words (cause.Fault kind) = codes "stopped by the fault " ++ fault_text kind
+
+-- the status of a partition, None where it has no image (own)
+abbrev pub headline_words : Option PartStatus → List Byte
+headline_words None = codes "no image"
+headline_words (Some status.Idle) = codes "idle, no thread is running or ready"
+headline_words (Some status.Running) = codes "running"
+headline_words (Some (status.Exited code)) = codes "exited with " ++ decimal code
+headline_words (Some (status.Stopped cause pc)) = stop_words cause
+headline_words (Some (status.Refused fault)) = codes "image refused, fault " ++ (decimal (image_fault_number fault) ++ (codes ": " ++ image_words fault))

@@ -1,20 +1,25 @@
 //! The words of an explanation.
 
-ghost use Rattle.std.specs.Prelude.{◌≡◌};
-ghost use Rattle.ptk_explanation.specs.Words.{ceiling_in, name_of_policy, name_of_protocol, name_of_type, words_of_refusal};
+ghost use Rattle.std.specs.Prelude.{◌≡◌, Some, option_and_then};
+ghost use Rattle.ptk_explanation.specs.Facts.{owner_of};
+ghost use Rattle.ptk_explanation.specs.Words.{activity_words, ceiling_in, headline_words, image_words, name_of_policy, name_of_protocol, name_of_type, owner_words, stop_words, until_words, wait_words, words_of_refusal};
 
 use crate::facts::Awaited;
 use ptk_main_runs::{Activity, PartStatus, cause_word};
-use ptk_words::{Cause, FaultKind, LAST_TICK, MutexKind, Owner, Policy, Protocol, Tick, Wait};
+use ptk_words::{
+    Cause, FaultKind, ImageFault, LAST_TICK, MutexKind, Owner, Policy, Protocol, Tick, Wait,
+};
 use std::fmt;
 
 /// Who owns a mutex, None of a number that is no mutex.
 #[derive(Clone, Copy)]
-pub(crate) struct OwnedBy(pub(crate) Option<Owner>);
+struct OwnedBy(Option<Owner>);
 
 impl fmt::Display for OwnedBy {
+    ghost output = { λ o. Some (owner_words o.0) };
+
     fn fmt<W: fmt::Write>(&self, f: &mut fmt::Formatter<W>) -> fmt::Result {
-        match &self.0 {
+        match self.0 {
             Some(Owner::OwnedBy(t)) => {
                 let number = t.number();
                 write!(f, ", which thread {number} owns")
@@ -29,9 +34,11 @@ impl fmt::Display for OwnedBy {
 
 /// The deadline of a wait, None where it has none. No run reaches one above 2^40.
 #[derive(Clone, Copy)]
-pub(crate) struct Until(pub(crate) Option<Tick>);
+struct Until(Option<Tick>);
 
 impl fmt::Display for Until {
+    ghost output = { λ u. Some (until_words u.0) };
+
     fn fmt<W: fmt::Write>(&self, f: &mut fmt::Formatter<W>) -> fmt::Result {
         match self.0 {
             Some(deadline) => {
@@ -42,7 +49,7 @@ impl fmt::Display for Until {
                     write!(f, ", until tick {tick}")
                 }
             }
-            None => Ok(()),
+            None => f.write_str(""),
         }
     }
 }
@@ -56,50 +63,62 @@ pub(crate) struct Doing {
 
 impl Doing {
     /// Who owns the mutex that the thread waits for.
-    fn owner(&self) -> OwnedBy {
-        OwnedBy(self.awaited.as_ref().and_then(|awaited| awaited.owner()))
+    fn owner(&self) -> Option<Owner>
+        ensures { result ≡ option_and_then owner_of self.now.awaited }
+    {
+        let awaited = self.awaited.as_ref()?;
+        awaited.owner()
     }
 }
 
 impl fmt::Display for Doing {
+    ghost output = { λ d. Some (activity_words d.activity (option_and_then owner_of d.awaited)) };
+
     fn fmt<W: fmt::Write>(&self, f: &mut fmt::Formatter<W>) -> fmt::Result {
-        match &self.activity {
+        match self.activity {
             Activity::Free => f.write_str("free"),
             Activity::Running => f.write_str("running"),
             Activity::Ready => f.write_str("ready"),
-            Activity::Blocked(wait) => fmt_wait(wait, self.owner(), f),
+            Activity::Blocked(wait) => Waiting(wait, self.owner()).fmt(f),
             Activity::Ended => f.write_str("ended, not joined"),
             Activity::Halted => f.write_str("halted"),
         }
     }
 }
 
-/// Writes what a thread waits for.
-fn fmt_wait<W: fmt::Write>(wait: &Wait, owner: OwnedBy, f: &mut fmt::Formatter<W>) -> fmt::Result {
-    match wait {
-        Wait::InputWait => f.write_str("waits for input"),
-        Wait::SleepWait(deadline) => {
-            let until = Until(Some(*deadline));
-            write!(f, "sleeps{until}")
-        }
-        Wait::JoinWait(u) => {
-            let number = u.number();
-            write!(f, "waits for the end of thread {number}")
-        }
-        Wait::MutexWait(m, deadline) => {
-            let (mutex, until) = (m.number(), Until(*deadline));
-            write!(f, "waits for mutex {mutex}{owner}{until}")
-        }
-        Wait::ConditionWait(c, m, deadline) => {
-            let (condition, mutex, until) = (c.number(), m.number(), Until(*deadline));
-            write!(
-                f,
-                "waits on condition variable {condition}, to have mutex {mutex} again{until}"
-            )
-        }
-        Wait::RelockWait(m, _) => {
-            let mutex = m.number();
-            write!(f, "waits to have mutex {mutex} again{owner}")
+/// What a thread waits for, and who owns the mutex that it waits for.
+#[derive(Clone, Copy)]
+struct Waiting(Wait, Option<Owner>);
+
+impl fmt::Display for Waiting {
+    ghost output = { λ w. Some (wait_words w.0 w.1) };
+
+    fn fmt<W: fmt::Write>(&self, f: &mut fmt::Formatter<W>) -> fmt::Result {
+        match self.0 {
+            Wait::InputWait => f.write_str("waits for input"),
+            Wait::SleepWait(deadline) => {
+                let until = Until(Some(deadline));
+                write!(f, "sleeps{until}")
+            }
+            Wait::JoinWait(u) => {
+                let number = u.number();
+                write!(f, "waits for the end of thread {number}")
+            }
+            Wait::MutexWait(m, deadline) => {
+                let (mutex, owner, until) = (m.number(), OwnedBy(self.1), Until(deadline));
+                write!(f, "waits for mutex {mutex}{owner}{until}")
+            }
+            Wait::ConditionWait(c, m, deadline) => {
+                let (condition, mutex, until) = (c.number(), m.number(), Until(deadline));
+                write!(
+                    f,
+                    "waits on condition variable {condition}, to have mutex {mutex} again{until}"
+                )
+            }
+            Wait::RelockWait(m, _) => {
+                let (mutex, owner) = (m.number(), OwnedBy(self.1));
+                write!(f, "waits to have mutex {mutex} again{owner}")
+            }
         }
     }
 }
@@ -156,25 +175,56 @@ pub(crate) fn refusal_words(cause: Cause) -> &'static str
     }
 }
 
+/// Why bytes are no image, or one that does not fit.
+fn image_words(fault: ImageFault) -> &'static str
+    ensures { result.now ≡ image_words fault }
+{
+    match fault {
+        ImageFault::Short => "the image is shorter than its header",
+        ImageFault::Magic => "the image does not begin with PTKI",
+        ImageFault::Version => "the image has an unknown version",
+        ImageFault::Length => "the image has other lengths than its header says",
+        ImageFault::Entry => "the entry of the image is misplaced",
+        ImageFault::Memory => "out of memory",
+        ImageFault::Unfit => "the image does not fit into its partition",
+    }
+}
+
+/// What stopped a partition.
+#[derive(Clone, Copy)]
+struct StoppedBy(Cause);
+
+impl fmt::Display for StoppedBy {
+    ghost output = { λ s. Some (stop_words s.0) };
+
+    fn fmt<W: fmt::Write>(&self, f: &mut fmt::Formatter<W>) -> fmt::Result {
+        match self.0 {
+            Cause::Break => f.write_str("stopped by an ebreak"),
+            Cause::Fault(_) => {
+                let kind = cause_word(self.0);
+                write!(f, "stopped by the fault {kind}")
+            }
+        }
+    }
+}
+
 /// The status of a partition, None where it has no image.
 #[derive(Clone, Copy)]
 pub(crate) struct Headline(pub(crate) Option<PartStatus>);
 
 impl fmt::Display for Headline {
+    ghost output = { λ h. Some (headline_words h.0) };
+
     fn fmt<W: fmt::Write>(&self, f: &mut fmt::Formatter<W>) -> fmt::Result {
         match self.0 {
             None => f.write_str("no image"),
             Some(PartStatus::Idle) => f.write_str("idle, no thread is running or ready"),
             Some(PartStatus::Running) => f.write_str("running"),
             Some(PartStatus::Exited(code)) => write!(f, "exited with {code}"),
-            Some(PartStatus::Stopped(Cause::Break, _)) => f.write_str("stopped by an ebreak"),
-            Some(PartStatus::Stopped(cause, _)) => {
-                let kind = cause_word(cause);
-                write!(f, "stopped by the fault {kind}")
-            }
+            Some(PartStatus::Stopped(cause, _)) => StoppedBy(cause).fmt(f),
             Some(PartStatus::Refused(fault)) => {
-                let number = fault.number();
-                write!(f, "image refused, fault {number}: {fault}")
+                let (number, why) = (fault.number(), image_words(fault));
+                write!(f, "image refused, fault {number}: {why}")
             }
         }
     }
