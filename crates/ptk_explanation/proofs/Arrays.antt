@@ -8,7 +8,7 @@ use Rattle.serde_json.specs.Written.{comma_if, compact_text, items_text}
 use Rattle.ptk_words.specs.Names.{Byte}
 use Rattle.ptk_words.specs.Processor.{Processor, register}
 use Rattle.ptk_words_model.specs.State.{Part}
-use Rattle.ptk_explanation.specs.declared.document.TheConstants.{REGISTERS}
+use Rattle.ptk_explanation.specs.declared.facts.TheConstants.{REGISTERS}
 use Rattle.ptk_explanation.specs.declared.facts.ThreadFacts.{ThreadFacts}
 use Rattle.ptk_explanation.specs.declared.history.History.{History}
 use Rattle.ptk_explanation.specs.Deadlocks.{blocker_in, cycle_from, following_in}
@@ -114,7 +114,7 @@ following_other first (Some u) next e = by_test (u == first) refl e
     by_test false is e = ap (λ (n : ℕ). n == first) (ap (λ (o : Option ℕ). unwrap_or o 0) e) ∙ is
 
 -- as many threads as there may be, with the one for which the first waits
-cycle_on : (s : Part) (first most at : ℕ) → most ≢ 0 → cycle_from s first most at ≡ at ∷ unwrap_or (option_map (cycle_from s first (most - 1)) (following_in s first at)) []
+pub cycle_on : (s : Part) (first most at : ℕ) → most ≢ 0 → cycle_from s first most at ≡ at ∷ unwrap_or (option_map (cycle_from s first (most - 1)) (following_in s first at)) []
 cycle_on s first zero at some = absurd (some refl)
 cycle_on s first (suc most) at some = ap (λ (k : ℕ). at ∷ unwrap_or (option_map (cycle_from s first k) (following_in s first at)) []) (omega arith)
 

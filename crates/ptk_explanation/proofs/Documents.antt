@@ -1,5 +1,5 @@
 -- The object of an explanation, part by part.
-use Rattle.std.proofs.Common.{◌≡◌, ℕ, List, [], ◌++◌, decimal, refl, length, max, sym, ap, subst, ◌∙◌, append-nil, arith}
+use Rattle.std.proofs.Common.{◌≡◌, ℕ, List, [], ◌++◌, decimal, refl, sym, ap, ◌∙◌, append-nil}
 use Rattle.std.specs.Prelude.{Bool, if◌then◌else◌, Option, Some, None, codes}
 use Rattle.std.specs.Str.{IsUtf8, is_utf8}
 use Rattle.std.proofs.lemmas.Bool.{false_from_ne_true}
@@ -9,12 +9,12 @@ use Rattle.serde_json.specs.Data.{Data}
 use Rattle.serde_json.specs.Written.{compact_text}
 use Rattle.ptk_words.specs.Names.{Byte, Pointer}
 use Rattle.ptk_words_model.specs.State.{Part}
-use Rattle.ptk_main_runs.specs.World.{World, at_tick, section_at, state_of}
+use Rattle.ptk_main_runs.specs.World.{World, section_at, state_of}
 use Rattle.ptk_explanation.specs.declared.facts.ThreadFacts.{ThreadFacts}
 use Rattle.ptk_explanation.specs.declared.history.History.{History}
 use Rattle.ptk_explanation.specs.Facts.{live_pc}
 use Rattle.ptk_explanation.specs.Members.{object_text}
-use Rattle.ptk_explanation.specs.Objects.{IsBody, IsDeadlocksText, IsDocument, IsExplanation, IsGoing, head_text, offset_at, registers_text, stop_members, stop_text, symbol_at, text_in, thread_data, thread_members, threads_text}
+use Rattle.ptk_explanation.specs.Objects.{IsBody, IsDeadlocksText, IsDocument, IsGoing, head_text, offset_at, registers_text, stop_members, stop_text, symbol_at, text_in, thread_data, thread_members, threads_text}
 use Rattle.ptk_explanation.specs.Standing.{standing_of, word_of_standing}
 use Rattle.ptk_explanation.specs.Stops.{Stopped}
 use Rattle.ptk_explanation.proofs.Objects.{three_pushed, two_pushed}
@@ -81,24 +81,3 @@ document_pushed symbols world p histories body old first second new is one two t
   (body, is, refl),
   three_pushed (head_text world p) body (codes "}\n") old first second new one two three,
 )
-
--- ---- an explanation
-
-pub explanation_told : (symbols : List (ℕ × List ℕ)) (now world : World) (ticks p : ℕ) (items shown : List History) (empty written : List Byte) → now ≡ at_tick ticks world → shown ≡ items
-    → length items ≡ length (state_of world p).part.locks.threads → empty ≡ [] → (text : List Byte) × IsDocument symbols now p shown text × (written ≡ empty ++ text)
-    → IsExplanation symbols world ticks p written
-explanation_told symbols now world ticks p items shown empty written at same count new told =
-    let whole : written ≡ told.0 = told.2 ∙ ap (λ (bytes : List Byte). bytes ++ told.0) new in (
-      items,
-      count,
-      subst (λ (w : World). IsDocument symbols w p items written) at
-          (subst (λ (hs : List History). IsDocument symbols now p hs written) same (subst (λ (bytes : List Byte). IsDocument symbols now p shown bytes) (sym whole) told.1)),
-    )
-
--- of a system that has just booted
-pub booted_told : (symbols : List (ℕ × List ℕ)) (booted system : World) (ticks p : ℕ) (text : List Byte) → booted.tick ≡ 0 → system ≡ booted
-    → IsExplanation symbols system (max system.tick ticks) p text → IsExplanation symbols booted ticks p text
-booted_told symbols booted system ticks p text first is told =
-    let same : max booted.tick ticks ≡ ticks = omega (arith, first) in
-    subst (λ (k : ℕ). IsExplanation symbols booted k p text) same
-    (subst (λ (w : World). IsExplanation symbols w (max w.tick ticks) p text) is told)

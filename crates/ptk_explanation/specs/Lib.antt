@@ -1,6 +1,8 @@
 pub mod Deadlocks
+pub mod Explanations
 pub mod Facts
 pub mod Histories
+pub mod Lines
 pub mod Members
 pub mod Objects
 pub mod Refusals

@@ -14,8 +14,8 @@ use Rattle.ptk_symbols.specs.Tables.{nearest}
 use Rattle.ptk_main_runs.specs.Activities.{thread_of_owner}
 use Rattle.ptk_main_runs.specs.PartStatus.{PartStatus}
 use Rattle.ptk_main_runs.specs.PartStatus.TheVariants as status
-use Rattle.ptk_main_runs.specs.World.{World, at_tick, section_at, state_of}
-use Rattle.ptk_explanation.specs.declared.document.TheConstants.{REGISTERS}
+use Rattle.ptk_main_runs.specs.World.{World, section_at, state_of}
+use Rattle.ptk_explanation.specs.declared.facts.TheConstants.{REGISTERS}
 use Rattle.ptk_explanation.specs.declared.facts.Awaited.{Awaited}
 use Rattle.ptk_explanation.specs.declared.facts.ThreadFacts.{ThreadFacts}
 use Rattle.ptk_explanation.specs.declared.history.History.{History}
@@ -201,8 +201,3 @@ abbrev pub IsDocument : List (ℕ × List ℕ) → World → ℕ → List Histor
 IsDocument symbols world p histories text =
     (body : List Byte) × IsBody symbols (state_of world p).part histories (standing_of (section_at world.config p) (state_of world p).part) body
     × (text ≡ head_text world p ++ (body ++ codes "}\n"))
-
--- the object of a partition of a system after this many ticks, with a history for each number of a thread (own)
-abbrev pub IsExplanation : List (ℕ × List ℕ) → World → ℕ → ℕ → List Byte → Type 0
-IsExplanation symbols world ticks p text =
-    (histories : List History) × (length histories ≡ length (state_of world p).part.locks.threads) × IsDocument symbols (at_tick ticks world) p histories text

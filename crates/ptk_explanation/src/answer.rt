@@ -8,7 +8,7 @@ ghost use Rattle.ptk_main_runs.specs.declared.runs.RunFault.TheVariants.{NoParti
 ghost use Rattle.ptk_main_runs.specs.RunFaults.{missing_in_run};
 ghost use Rattle.ptk_main_runs.specs.Parts.{part_named};
 ghost use Rattle.ptk_main_runs.specs.World.{world_at};
-ghost use Rattle.ptk_explanation.specs.Objects.{IsDocument, IsExplanation};
+ghost use Rattle.ptk_explanation.specs.Explanations.{IsExplanation, IsSaid};
 
 use crate::document::push_document;
 use crate::history::{History, histories};
@@ -53,7 +53,9 @@ pub fn explain_partition_with<W: Write>(
         (λ fault. fault ≢ NoPartition → first_missing files.now config.now.sections ≡ missing_in_run fault) }
     ensures silent { IfErr result (λ fault. fault ≢ RunFault.Write → out.new ≡ out.old) }
     ensures json { OnOk result (form ≡ Form.Json → (p : ℕ) × (part_named config.now name.now ≡ Some p)
-        × (text : List ℕ) × IsExplanation symbols.now (world_at config.now files.now 0) ticks p text × Appends (W.contents out.old) (W.contents out.new) text) }
+        × (text : List ℕ) × IsExplanation Form.Json symbols.now (world_at config.now files.now 0) ticks p text × Appends (W.contents out.old) (W.contents out.new) text) }
+    ensures lines { OnOk result (form ≡ Form.Lines → (p : ℕ) × (part_named config.now name.now ≡ Some p)
+        × (text : List ℕ) × IsExplanation Form.Lines symbols.now (world_at config.now files.now 0) ticks p text × Appends (W.contents out.old) (W.contents out.new) text) }
 {
     match part_named(config, name) {
         Some(p) => put_answer(form, alloc, config, files, ticks, p, symbols, out),
@@ -79,8 +81,8 @@ fn put_answer<W: Write>(
         (λ _. first_missing files.now config.now.sections ≡ None)
         (λ fault. first_missing files.now config.now.sections ≡ missing_in_run fault) }
     ensures silent { IfErr result (λ fault. fault ≢ RunFault.Write → out.new ≡ out.old) }
-    ensures json { OnOk result (form ≡ Form.Json → (text : List ℕ)
-        × IsExplanation symbols.now (world_at config.now files.now 0) ticks p text × Appends (W.contents out.old) (W.contents out.new) text) }
+    ensures told { OnOk result ((text : List ℕ)
+        × IsExplanation form symbols.now (world_at config.now files.now 0) ticks p text × Appends (W.contents out.old) (W.contents out.new) text) }
 {
     match answer_of(form, alloc, config, files, ticks, p, symbols) {
         Ok(answer) => match out.write_all(answer.as_bytes()) {
@@ -106,7 +108,7 @@ fn answer_of(
     ensures missing { MatchResult result
         (λ _. first_missing files.now config.now.sections ≡ None)
         (λ fault. first_missing files.now config.now.sections ≡ missing_in fault) }
-    ensures json { IfOk result (λ text. form ≡ Form.Json → IsExplanation symbols.now (world_at config.now files.now 0) ticks p (string_bytes text)) }
+    ensures told { IfOk result (λ text. IsExplanation form symbols.now (world_at config.now files.now 0) ticks p (string_bytes text)) }
 {
     let mut system = System::boot(alloc, config, files)?;
     match text_of(form, alloc, &mut system, ticks, p, symbols) {
@@ -126,7 +128,7 @@ fn text_of(
 ) -> Result<String, AllocError>
     requires ticks { ticks ≤ LAST_TICK }
     requires partition { p < length system.old.config.sections }
-    ensures { IfOk result (λ text. form ≡ Form.Json → IsExplanation symbols.now system.old (max system.old.tick ticks) p (string_bytes text)) }
+    ensures { IfOk result (λ text. IsExplanation form symbols.now system.old (max system.old.tick ticks) p (string_bytes text)) }
 {
     let histories = histories(alloc, system, p, ticks)?;
     let mut text = String::new(alloc);
@@ -153,7 +155,7 @@ fn push_answer(
     symbols: &Symbols<'_>,
 ) -> Result<(), AllocError>
     requires { p < length system.now.config.sections }
-    ensures { OnOk result (form ≡ Form.Json → (text : List ℕ) × IsDocument symbols.now system.now p histories.now text × (string_bytes out.new ≡ string_bytes out.old ++ text)) }
+    ensures { OnOk result ((text : List ℕ) × IsSaid form symbols.now system.now p histories.now text × (string_bytes out.new ≡ string_bytes out.old ++ text)) }
 {
     match form {
         Form::Lines => push_lines(alloc, out, system, p, histories, symbols),

@@ -11,10 +11,10 @@ ghost use Rattle.ptk_explanation.specs.Standing.{standing_of, word_of_standing};
 ghost use Rattle.ptk_explanation.specs.Stops.{said_of, stop_in};
 
 use crate::cycles::{begins_cycle, following};
-use crate::facts::{Awaited, Stop, ThreadFacts, thread_count};
+use crate::facts::{Awaited, REGISTERS, Stop, ThreadFacts, thread_count};
 use crate::history::History;
 use crate::members::{Member, MemberValue, comma_unless, push_members, push_text};
-use crate::status::standing;
+use crate::status::{name_of, standing};
 use crate::target::Target;
 use crate::words::{ceiling_of, policy_name, protocol_name, type_name};
 use ptk_main_runs::{PartStatus, System, cause_word};
@@ -22,9 +22,6 @@ use ptk_symbols::Symbols;
 use ptk_words::{Cause, Cpu, Owner, PartId, ThreadNo};
 use std::alloc::{AllocError, Global};
 use std::fmt::Write;
-
-/// How many registers a thread has (RISC-V 2.1).
-const REGISTERS: u32 = 32;
 
 /// The symbol that is nearest to an address, and the distance from its beginning.
 #[derive(Clone, Copy)]
@@ -201,14 +198,6 @@ fn push_stopped(
         Some(stop) => push_stop(alloc, out, &stop, symbols),
         None => Ok(()),
     }
-}
-
-/// The name of a partition.
-fn name_of<'a>(system: &System<'a>, p: PartId) -> &'a str
-    requires { p < length system.now.config.sections }
-    ensures { result.now ≡ (section_at system.now.config p).name }
-{
-    system.config().sections()[p.index()].name()
 }
 
 /// Appends the members that each partition has.

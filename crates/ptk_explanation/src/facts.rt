@@ -19,6 +19,9 @@ use ptk_words::{
 };
 use std::alloc::{AllocError, Global};
 
+/// How many registers a thread has (RISC-V 2.1).
+pub(crate) const REGISTERS: u32 = 32;
+
 /// How many numbers of threads a partition has, at most `THREAD_LIMIT`.
 pub(crate) fn thread_count(system: &System<'_>, p: PartId) -> usize
     requires { p < length system.now.config.sections }

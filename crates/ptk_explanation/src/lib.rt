@@ -13,15 +13,15 @@
 //! - A thread is called deadlocked if and only if some number of waits, one at least, leads from it back to it, each
 //!   for the owner of a mutex or for the end of a thread, and without a deadline (`is_deadlocked`, `blocker`). A cycle
 //!   is named once, from its least number on (`begins_cycle`).
-//! - The JSON object is made of these values, each under its key, and has no other member (`json`: `IsExplanation`).
-//!   Since when a thread does what it does is not in that clause.
+//! - The JSON object is made of these values, each under its key, and has no other member. The lines of text are made
+//!   of the same values (`json`, `lines`: `IsExplanation`). Since when a thread does what it does is not in these
+//!   clauses.
 //!
 //! A history of a thread is what was seen of it at the partition's decisions, each time by `looked`, over the run of
 //! `run_to` (`histories`): what the thread does in the end it has done since the decision that its history names
-//! (`since`). The lines of text are tested (`ptk_main_tests`); they are made of the same values. A fault of the request
-//! comes before the first byte, one of the writer at any. Below are the system (`ptk_system`), the types of
-//! instructions (`ptk_rv32i_code`), symbols (`ptk_symbols`) and the statement of a word (`ptk_disasm`); the program is
-//! above.
+//! (`since`). A fault of the request comes before the first byte, one of the writer at any. Below are the system
+//! (`ptk_system`), the types of instructions (`ptk_rv32i_code`), symbols (`ptk_symbols`), words to base 16 (`ptk_text`)
+//! and the statement of a word (`ptk_disasm`); the program is above.
 
 mod answer;
 mod cycles;

@@ -1,4 +1,4 @@
-//! The status of a partition, or that it has no image.
+//! The name of a partition, and its status, or that it has no image.
 
 ghost use Rattle.std.specs.Prelude.{◌≡◌, ◌<◌, length};
 ghost use Rattle.ptk_main_runs.specs.World.{section_at, state_of};
@@ -6,6 +6,14 @@ ghost use Rattle.ptk_explanation.specs.Standing.{standing_of};
 
 use ptk_main_runs::{PartStatus, System};
 use ptk_words::PartId;
+
+/// The name of a partition.
+pub(crate) fn name_of<'a>(system: &System<'a>, p: PartId) -> &'a str
+    requires { p < length system.now.config.sections }
+    ensures { result.now ≡ (section_at system.now.config p).name }
+{
+    system.config().sections()[p.index()].name()
+}
 
 /// The status of a partition; None where its section names no image, so that it has no thread (own).
 pub(crate) fn standing(system: &System<'_>, p: PartId) -> Option<PartStatus>
