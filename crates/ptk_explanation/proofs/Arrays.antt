@@ -8,12 +8,12 @@ use Rattle.serde_json.specs.Written.{comma_if, compact_text, items_text}
 use Rattle.ptk_words.specs.Names.{Byte}
 use Rattle.ptk_words.specs.Processor.{Processor, register}
 use Rattle.ptk_words_model.specs.State.{Part}
-use Rattle.ptk_explanation.specs.declared.facts.TheConstants.{REGISTERS}
-use Rattle.ptk_explanation.specs.declared.facts.ThreadFacts.{ThreadFacts}
-use Rattle.ptk_explanation.specs.declared.history.History.{History}
-use Rattle.ptk_explanation.specs.Deadlocks.{blocker_in, cycle_from, following_in}
-use Rattle.ptk_explanation.specs.Facts.{facts_of}
-use Rattle.ptk_explanation.specs.Histories.{no_history}
+use Rattle.ptk_explanation_facts.specs.declared.facts.TheConstants.{REGISTERS}
+use Rattle.ptk_explanation_facts.specs.declared.facts.ThreadFacts.{ThreadFacts}
+use Rattle.ptk_explanation_facts.specs.declared.history.History.{History}
+use Rattle.ptk_explanation_facts.specs.Deadlocks.{blocker_in, cycle_from, following_in}
+use Rattle.ptk_explanation_facts.specs.Facts.{facts_of}
+use Rattle.ptk_explanation_facts.specs.Histories.{no_history}
 use Rattle.ptk_explanation.specs.Objects.{begun_text, cycle_data, cycle_items, number_items, registers_text, thread_items, threads_text, used_text, with_thread}
 
 -- ---- numbers

@@ -10,13 +10,13 @@ use Rattle.serde_json.specs.Written.{compact_text}
 use Rattle.ptk_words.specs.Names.{Byte, Pointer}
 use Rattle.ptk_words_model.specs.State.{Part}
 use Rattle.ptk_main_runs.specs.World.{World, section_at, state_of}
-use Rattle.ptk_explanation.specs.declared.facts.ThreadFacts.{ThreadFacts}
-use Rattle.ptk_explanation.specs.declared.history.History.{History}
-use Rattle.ptk_explanation.specs.Facts.{live_pc}
+use Rattle.ptk_explanation_facts.specs.declared.facts.ThreadFacts.{ThreadFacts}
+use Rattle.ptk_explanation_facts.specs.declared.history.History.{History}
+use Rattle.ptk_explanation_facts.specs.Facts.{live_pc}
 use Rattle.ptk_explanation.specs.Members.{object_text}
 use Rattle.ptk_explanation.specs.Objects.{IsBody, IsDeadlocksText, IsDocument, IsGoing, head_text, offset_at, registers_text, stop_members, stop_text, symbol_at, text_in, thread_data, thread_members, threads_text}
-use Rattle.ptk_explanation.specs.Standing.{standing_of, word_of_standing}
-use Rattle.ptk_explanation.specs.Stops.{Stopped}
+use Rattle.ptk_explanation_facts.specs.Standing.{standing_of, word_of_standing}
+use Rattle.ptk_explanation_facts.specs.Stops.{Stopped}
 use Rattle.ptk_explanation.proofs.Objects.{three_pushed, two_pushed}
 
 -- ---- a thread and a stop

@@ -3,7 +3,7 @@ use Rattle.std.proofs.Common.{◌≡◌, ℕ, List, [], ◌++◌, length, max, s
 use Rattle.ptk_words.specs.Names.{Byte}
 use Rattle.ptk_main_runs.specs.World.{World, at_tick, state_of}
 use Rattle.ptk_explanation.specs.declared.answer.Form.{Form}
-use Rattle.ptk_explanation.specs.declared.history.History.{History}
+use Rattle.ptk_explanation_facts.specs.declared.history.History.{History}
 use Rattle.ptk_explanation.specs.Explanations.{IsExplanation, IsSaid}
 
 pub explanation_told : (form : Form) (symbols : List (ℕ × List ℕ)) (now world : World) (ticks p : ℕ) (items shown : List History) (empty written : List Byte) → now ≡ at_tick ticks world → shown ≡ items

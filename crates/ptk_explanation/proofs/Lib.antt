@@ -1,9 +1,3 @@
-pub mod Waiting
-pub mod Leasts
-pub mod Begins
-pub mod Reading
-pub mod Looks
-pub mod Sinces
 pub mod Objects
 pub mod Arrays
 pub mod Told

@@ -10,15 +10,15 @@ use Rattle.ptk_words_model.specs.Text.{hex_word}
 use Rattle.ptk_mutex_priorities.specs.declared.slot.MutexState.{MutexState}
 use Rattle.ptk_symbols.specs.Tables.{place_text}
 use Rattle.ptk_main_runs.specs.World.{World, section_at, state_of}
-use Rattle.ptk_explanation.specs.declared.facts.TheConstants.{REGISTERS}
-use Rattle.ptk_explanation.specs.declared.facts.ThreadFacts.{ThreadFacts}
-use Rattle.ptk_explanation.specs.declared.history.History.{History}
-use Rattle.ptk_explanation.specs.Deadlocks.{cycle_from, following_in}
-use Rattle.ptk_explanation.specs.Facts.{facts_of}
-use Rattle.ptk_explanation.specs.Histories.{no_history}
+use Rattle.ptk_explanation_facts.specs.declared.facts.TheConstants.{REGISTERS}
+use Rattle.ptk_explanation_facts.specs.declared.facts.ThreadFacts.{ThreadFacts}
+use Rattle.ptk_explanation_facts.specs.declared.history.History.{History}
+use Rattle.ptk_explanation_facts.specs.Deadlocks.{cycle_from, following_in}
+use Rattle.ptk_explanation_facts.specs.Facts.{facts_of}
+use Rattle.ptk_explanation_facts.specs.Histories.{no_history}
 use Rattle.ptk_explanation.specs.Lines.{AreBody, AreDeadlocks, AreGoing, AreLines, begun_line, ceiling_text, cycle_line, head_line, line_end, lines_at, register_column, register_lines, register_text, scheduling_text, semicolon_if, stand_text, state_line, threads_lines, used_lines, waiting_text, waits_text}
-use Rattle.ptk_explanation.specs.Standing.{standing_of}
-use Rattle.ptk_explanation.specs.Stops.{Stopped}
+use Rattle.ptk_explanation_facts.specs.Standing.{standing_of}
+use Rattle.ptk_explanation_facts.specs.Stops.{Stopped}
 use Rattle.ptk_explanation.specs.Words.{ceiling_in, headline_words, name_of_policy, name_of_protocol, name_of_type}
 use Rattle.ptk_explanation.proofs.Arrays.{cycle_on}
 use Rattle.ptk_explanation.proofs.Objects.{three_pushed, two_pushed}

@@ -4,7 +4,7 @@ use Rattle.ptk_words.specs.Names.{Byte}
 use Rattle.ptk_main_runs.specs.World.{World, at_tick, state_of}
 use Rattle.ptk_explanation.specs.declared.answer.Form.{Form}
 use Rattle.ptk_explanation.specs.declared.answer.Form.TheVariants as form
-use Rattle.ptk_explanation.specs.declared.history.History.{History}
+use Rattle.ptk_explanation_facts.specs.declared.history.History.{History}
 use Rattle.ptk_explanation.specs.Lines.{AreLines}
 use Rattle.ptk_explanation.specs.Objects.{IsDocument}
 

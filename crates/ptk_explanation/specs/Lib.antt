@@ -1,12 +1,6 @@
-pub mod Deadlocks
 pub mod Explanations
-pub mod Facts
-pub mod Histories
 pub mod Lines
 pub mod Members
 pub mod Objects
-pub mod Refusals
-pub mod Standing
-pub mod Stops
 pub mod Targets
 pub mod Words

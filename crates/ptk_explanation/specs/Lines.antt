@@ -14,16 +14,16 @@ use Rattle.ptk_main_runs.specs.Activities.{activity_in}
 use Rattle.ptk_main_runs.specs.PartStatus.{PartStatus}
 use Rattle.ptk_main_runs.specs.PartStatus.TheVariants as status
 use Rattle.ptk_main_runs.specs.World.{World, section_at, state_of}
-use Rattle.ptk_explanation.specs.declared.facts.TheConstants.{REGISTERS}
-use Rattle.ptk_explanation.specs.declared.facts.Awaited.{Awaited}
-use Rattle.ptk_explanation.specs.declared.facts.ThreadFacts.{ThreadFacts}
-use Rattle.ptk_explanation.specs.declared.history.History.{History}
+use Rattle.ptk_explanation_facts.specs.declared.facts.TheConstants.{REGISTERS}
+use Rattle.ptk_explanation_facts.specs.declared.facts.Awaited.{Awaited}
+use Rattle.ptk_explanation_facts.specs.declared.facts.ThreadFacts.{ThreadFacts}
+use Rattle.ptk_explanation_facts.specs.declared.history.History.{History}
 use Rattle.ptk_explanation.specs.declared.lines.TheConstants.{REGISTERS_IN_LINE}
-use Rattle.ptk_explanation.specs.Deadlocks.{BeginsCycle, cycle_from}
-use Rattle.ptk_explanation.specs.Facts.{awaited_in, facts_of, live_pc, owner_of}
-use Rattle.ptk_explanation.specs.Histories.{no_history}
-use Rattle.ptk_explanation.specs.Standing.{standing_of}
-use Rattle.ptk_explanation.specs.Stops.{Stopped, stop_in}
+use Rattle.ptk_explanation_facts.specs.Deadlocks.{BeginsCycle, cycle_from}
+use Rattle.ptk_explanation_facts.specs.Facts.{awaited_in, facts_of, live_pc, owner_of}
+use Rattle.ptk_explanation_facts.specs.Histories.{no_history}
+use Rattle.ptk_explanation_facts.specs.Standing.{standing_of}
+use Rattle.ptk_explanation_facts.specs.Stops.{Stopped, stop_in}
 use Rattle.ptk_explanation.specs.Words.{activity_words, ceiling_in, headline_words, name_of_policy, name_of_protocol, name_of_type, words_of_refusal}
 
 -- ---- a stop

@@ -15,16 +15,16 @@ use Rattle.ptk_main_runs.specs.Activities.{thread_of_owner}
 use Rattle.ptk_main_runs.specs.PartStatus.{PartStatus}
 use Rattle.ptk_main_runs.specs.PartStatus.TheVariants as status
 use Rattle.ptk_main_runs.specs.World.{World, section_at, state_of}
-use Rattle.ptk_explanation.specs.declared.facts.TheConstants.{REGISTERS}
-use Rattle.ptk_explanation.specs.declared.facts.Awaited.{Awaited}
-use Rattle.ptk_explanation.specs.declared.facts.ThreadFacts.{ThreadFacts}
-use Rattle.ptk_explanation.specs.declared.history.History.{History}
-use Rattle.ptk_explanation.specs.Deadlocks.{BeginsCycle, cycle_from}
-use Rattle.ptk_explanation.specs.Facts.{facts_of, live_pc, live_stack, owner_of}
-use Rattle.ptk_explanation.specs.Histories.{no_history}
+use Rattle.ptk_explanation_facts.specs.declared.facts.TheConstants.{REGISTERS}
+use Rattle.ptk_explanation_facts.specs.declared.facts.Awaited.{Awaited}
+use Rattle.ptk_explanation_facts.specs.declared.facts.ThreadFacts.{ThreadFacts}
+use Rattle.ptk_explanation_facts.specs.declared.history.History.{History}
+use Rattle.ptk_explanation_facts.specs.Deadlocks.{BeginsCycle, cycle_from}
+use Rattle.ptk_explanation_facts.specs.Facts.{facts_of, live_pc, live_stack, owner_of}
+use Rattle.ptk_explanation_facts.specs.Histories.{no_history}
 use Rattle.ptk_explanation.specs.Members.{all_members, fact_member, members_of, number_data, number_member, object_text, text_member}
-use Rattle.ptk_explanation.specs.Standing.{standing_of, word_of_standing}
-use Rattle.ptk_explanation.specs.Stops.{Stopped, stop_in}
+use Rattle.ptk_explanation_facts.specs.Standing.{standing_of, word_of_standing}
+use Rattle.ptk_explanation_facts.specs.Stops.{Stopped, stop_in}
 use Rattle.ptk_explanation.specs.Targets.{aim_of}
 use Rattle.ptk_explanation.specs.Words.{ceiling_in, name_of_policy, name_of_protocol, name_of_type}
 

@@ -11,9 +11,9 @@ ghost use Rattle.ptk_main_runs.specs.World.{world_at};
 ghost use Rattle.ptk_explanation.specs.Explanations.{IsExplanation, IsSaid};
 
 use crate::document::push_document;
-use crate::history::{History, histories};
 use crate::lines::push_lines;
 use ptk_config::Config;
+use ptk_explanation_facts::{History, histories};
 use ptk_main_runs::{BootFault, Files, RunFault, System, part_named};
 use ptk_symbols::Symbols;
 use ptk_words::{PartId, Tick};

@@ -4,19 +4,19 @@ ghost use Rattle.std.specs.Prelude.{◌≡◌, ◌<◌, ◌++◌, ◌==◌, ◌&
 ghost use Rattle.serde_json.specs.Written.{compact_text, items_text};
 ghost use Rattle.ptk_words.specs.Names.{Byte};
 ghost use Rattle.ptk_main_runs.specs.World.{section_at, state_of};
-ghost use Rattle.ptk_explanation.specs.Deadlocks.{cycle_from};
+ghost use Rattle.ptk_explanation_facts.specs.Deadlocks.{cycle_from};
 ghost use Rattle.ptk_explanation.specs.Members.{shown_members};
 ghost use Rattle.ptk_explanation.specs.Objects.{IsBody, IsDeadlocksText, IsDocument, IsGoing, begun_text, ceiling_awaited, cycle_data, head_text, number_items, offset_at, owner_awaited, protocol_awaited, registers_text, stop_members, stop_text, stopped_text, symbol_at, text_in, thread_data, thread_members, threads_text, type_awaited, used_text};
-ghost use Rattle.ptk_explanation.specs.Standing.{standing_of, word_of_standing};
-ghost use Rattle.ptk_explanation.specs.Stops.{said_of, stop_in};
+ghost use Rattle.ptk_explanation_facts.specs.Standing.{standing_of, word_of_standing};
+ghost use Rattle.ptk_explanation_facts.specs.Stops.{said_of, stop_in};
 
-use crate::cycles::{begins_cycle, following};
-use crate::facts::{Awaited, REGISTERS, Stop, ThreadFacts, thread_count};
-use crate::history::History;
 use crate::members::{Member, MemberValue, comma_unless, push_members, push_text};
-use crate::status::{name_of, standing};
 use crate::target::Target;
 use crate::words::{ceiling_of, policy_name, protocol_name, type_name};
+use ptk_explanation_facts::{
+    Awaited, History, REGISTERS, Stop, ThreadFacts, begins_cycle, following, name_of, standing,
+    thread_count,
+};
 use ptk_main_runs::{PartStatus, System, cause_word};
 use ptk_symbols::Symbols;
 use ptk_words::{Cause, Cpu, Owner, PartId, ThreadNo};

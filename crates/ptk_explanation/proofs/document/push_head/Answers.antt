@@ -1,7 +1,7 @@
 use Rattle.std.proofs.Common.{◌∙◌, ap}
 use Rattle.std.specs.Prelude.{string_bytes}
 use Rattle.std.proofs.lemmas.Result.{on_ok_weaker}
-use Rattle.ptk_explanation.specs.Standing.{word_of_standing}
+use Rattle.ptk_explanation_facts.specs.Standing.{word_of_standing}
 use Rattle.ptk_explanation.proofs.Documents.{head_pushed}
 use Rattle.ptk_explanation.proofs.document.push_head.Goals as goal
 

@@ -2,7 +2,7 @@ use Rattle.std.proofs.Common.{codes, arith}
 use Rattle.std.specs.Prelude.{string_bytes}
 use Rattle.std.proofs.lemmas.Result.{on_ok_weaker}
 use Rattle.ptk_words.specs.Processor.{register}
-use Rattle.ptk_explanation.specs.declared.facts.TheConstants.{REGISTERS}
+use Rattle.ptk_explanation_facts.specs.declared.facts.TheConstants.{REGISTERS}
 use Rattle.ptk_explanation.proofs.Arrays.{number_last, number_more, registers_pushed}
 use Rattle.ptk_explanation.proofs.Objects.{ok_pushed}
 use Rattle.ptk_explanation.proofs.document.push_registers.Goals as goal

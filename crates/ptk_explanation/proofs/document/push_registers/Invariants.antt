@@ -1,7 +1,7 @@
 use Rattle.std.proofs.Common.{◌≡◌, ◌++◌}
 use Rattle.std.specs.Prelude.{string_bytes}
 use Rattle.ptk_words.specs.Processor.{register}
-use Rattle.ptk_explanation.specs.declared.facts.TheConstants.{REGISTERS}
+use Rattle.ptk_explanation_facts.specs.declared.facts.TheConstants.{REGISTERS}
 use Rattle.ptk_explanation.proofs.Arrays.{numbers_from}
 use Rattle.ptk_explanation.proofs.document.push_registers.Given as goal
 

@@ -1,6 +1,6 @@
 use Rattle.std.specs.Prelude.{string_bytes}
 use Rattle.std.proofs.lemmas.Result.{on_ok_weaker}
-use Rattle.ptk_explanation.specs.Stops.{said_of}
+use Rattle.ptk_explanation_facts.specs.Stops.{said_of}
 use Rattle.ptk_explanation.proofs.Documents.{stop_pushed}
 use Rattle.ptk_explanation.proofs.document.push_stop.Goals as goal
 

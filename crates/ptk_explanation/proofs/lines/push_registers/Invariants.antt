@@ -1,6 +1,6 @@
 use Rattle.std.proofs.Common.{◌≡◌, ◌++◌}
 use Rattle.std.specs.Prelude.{string_bytes}
-use Rattle.ptk_explanation.specs.declared.facts.TheConstants.{REGISTERS}
+use Rattle.ptk_explanation_facts.specs.declared.facts.TheConstants.{REGISTERS}
 use Rattle.ptk_explanation.specs.Lines.{register_text}
 use Rattle.ptk_explanation.proofs.Texts.{texts_from}
 use Rattle.ptk_explanation.proofs.lines.push_registers.Given as goal

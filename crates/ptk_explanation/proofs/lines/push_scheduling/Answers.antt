@@ -2,7 +2,7 @@ use Rattle.std.proofs.Common.{List, ◌++◌, ◌∙◌, ap, codes}
 use Rattle.std.specs.Prelude.{string_bytes}
 use Rattle.std.proofs.lemmas.Result.{on_ok_weaker}
 use Rattle.ptk_words.specs.Names.{Byte, newline}
-use Rattle.ptk_explanation.specs.Facts.{live_pc}
+use Rattle.ptk_explanation_facts.specs.Facts.{live_pc}
 use Rattle.ptk_explanation.specs.Lines.{live_text, scheduling_text}
 use Rattle.ptk_explanation.proofs.Texts.{scheduling_written}
 use Rattle.ptk_explanation.proofs.Objects.{ok_pushed, three_pushed}

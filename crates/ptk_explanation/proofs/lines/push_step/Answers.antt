@@ -5,7 +5,7 @@ use Rattle.ptk_words.specs.Names.{Byte, newline}
 use Rattle.ptk_words_model.specs.Text.{hex_word}
 use Rattle.ptk_symbols.specs.Tables.{place_text}
 use Rattle.ptk_explanation.specs.Lines.{instruction_text, step_text}
-use Rattle.ptk_explanation.specs.Stops.{said_of}
+use Rattle.ptk_explanation_facts.specs.Stops.{said_of}
 use Rattle.ptk_explanation.proofs.Texts.{four_pushed, step_written}
 use Rattle.ptk_explanation.proofs.Objects.{ok_pushed}
 use Rattle.ptk_explanation.proofs.lines.push_step.Goals as goal

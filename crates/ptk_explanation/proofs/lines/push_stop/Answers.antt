@@ -1,7 +1,7 @@
 use Rattle.std.specs.Prelude.{string_bytes}
 use Rattle.std.proofs.lemmas.Result.{on_ok_weaker}
 use Rattle.ptk_explanation.specs.Lines.{address_line, register_lines, step_line}
-use Rattle.ptk_explanation.specs.Stops.{said_of}
+use Rattle.ptk_explanation_facts.specs.Stops.{said_of}
 use Rattle.ptk_explanation.proofs.Objects.{three_pushed}
 use Rattle.ptk_explanation.proofs.lines.push_stop.Goals as goal
 

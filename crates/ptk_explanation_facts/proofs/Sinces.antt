@@ -1,0 +1,150 @@
+-- Since when a thread does what it does: what its history says goes on from look to look.
+use Rattle.std.proofs.Common.{◌≡◌, ℕ, ◌+◌, ◌<◌, ◌≤◌, ◌⊎◌, Bool, true, false, List, ◌++◌, drop, take, length, max, refl, sym, ◌∙◌, ap, subst, arith, inl, inr}
+use Rattle.std.specs.Prelude.{if◌then◌else◌, slice_index_or}
+use Rattle.std.specs.Cmp.{IsEquivalence}
+use Rattle.std.proofs.lemmas.Bool.{cases_order}
+use Rattle.std.proofs.lemmas.List.{get_or-replicate, length-replicate, take-append-le, take_all}
+use Rattle.ptk_words_parted.specs.Parts.{filled}
+use Rattle.ptk_words.specs.declared.TheConstants.{THREAD_LIMIT}
+use Rattle.ptk_words_model.specs.State.{Part, State}
+use Rattle.ptk_main_runs.specs.Activity.{Activity}
+use Rattle.ptk_main_runs.specs.Activities.{activity_in}
+use Rattle.ptk_main_runs.specs.World.{World, at_tick, but_next, state_of}
+use Rattle.ptk_explanation_facts.specs.declared.history.History.{History}
+use Rattle.ptk_explanation_facts.specs.Histories.{AreLooked, AreNew, AreSince, IsSince, is_at, looked, no_history}
+
+-- what holds at a tick, or nothing has been seen yet
+abbrev pub IsSeen : (Activity → Activity → Bool) → World → ℕ → ℕ → ℕ → History → Type 0
+IsSeen is_same world p t tick history = ((tick ≡ 0) × (history.since ≡ 0)) ⊎ IsSince is_same world p t tick history
+
+-- the same of each history
+abbrev pub AreSeen : (Activity → Activity → Bool) → World → ℕ → ℕ → List History → Type 0
+AreSeen is_same world p tick histories =
+    (place : ℕ) (default : History) → place < length histories → place < THREAD_LIMIT → IsSeen is_same world p (place + 1) tick (slice_index_or histories place default)
+
+module _ (is_same : Activity → Activity → Bool) (law : IsEquivalence is_same) (world : World) (p t : ℕ) where
+  -- what does the same as one thing does the same as another that is the same
+  swapped : (a b x : Activity) → is_same a b ≡ true → is_same x a ≡ is_same x b
+  swapped a b x e = law.symm x a ∙ (law.congr a b x e ∙ law.symm b x)
+
+  went_on : (tick : ℕ) (old : History) → is_at is_same world p t (tick + 1) old.activity ≡ true → IsSeen is_same world p t tick old
+      → (k : ℕ) → old.since < k → k ≤ tick + 1 → is_at is_same world p t k old.activity ≡ true
+  went_on tick old same seen k from to = elim (cases_order k (tick + 1)) [
+    | inl last ↦ subst (λ (j : ℕ). is_at is_same world p t j old.activity ≡ true) (sym last) same
+    | inr order ↦ elim order [
+      | inl before ↦ elim seen [
+        | inl new ↦ absurd (omega (arith, from, before, new.0))
+        | inr so ↦ so.since k from (omega (arith, before))
+      ]
+      | inr after ↦ absurd (omega (arith, to, after))
+    ]
+  ]
+
+  other_before : (tick : ℕ) (old : History) → IsSeen is_same world p t tick old → 0 < old.since → is_at is_same world p t old.since old.activity ≡ false
+  other_before tick old seen some = elim seen [ inl new ↦ absurd (omega (arith, some, new.1)) | inr so ↦ so.other some ]
+
+  does_before : (tick : ℕ) (old : History) → IsSeen is_same world p t tick old → 0 < tick → is_at is_same world p t tick old.activity ≡ true
+  does_before tick old seen some = elim seen [ inl new ↦ absurd (omega (arith, some, new.0)) | inr so ↦ so.does ]
+
+  -- one look
+  pub looked_on : (tick : ℕ) (old new : History) (s : Part) (same : Bool) → s ≡ (state_of (at_tick (tick + 1) world) p).part → is_same (activity_in t s) old.activity ≡ same
+      → new.activity ≡ activity_in t s → new.since ≡ (if same then old.since else tick) → IsSeen is_same world p t tick old → IsSince is_same world p t (tick + 1) new
+  looked_on tick old new s true at test does since seen =
+      let kept : new.since ≡ old.since = since in
+      let here : new.activity ≡ activity_in t (state_of (at_tick (tick + 1) world) p).part = does ∙ ap (activity_in t) at in
+      let same : is_at is_same world p t (tick + 1) old.activity ≡ true = ap (λ (x : Part). is_same (activity_in t x) old.activity) (sym at) ∙ test in
+      let alike : is_same new.activity old.activity ≡ true = ap (λ (a : Activity). is_same a old.activity) does ∙ test in record {
+        does = ap (is_same (activity_in t (state_of (at_tick (tick + 1) world) p).part)) here ∙ law.refl (activity_in t (state_of (at_tick (tick + 1) world) p).part);
+        since = λ k from to. swapped new.activity old.activity (activity_in t (state_of (at_tick k world) p).part) alike ∙ went_on tick old same seen k (omega (arith, from, kept)) to;
+        other = λ some. ap (λ (j : ℕ). is_at is_same world p t j new.activity) kept
+            ∙ (swapped new.activity old.activity (activity_in t (state_of (at_tick old.since world) p).part) alike ∙ other_before tick old seen (omega (arith, some, kept)));
+      }
+  looked_on tick old new s false at test does since seen =
+      let began : new.since ≡ tick = since in
+      let here : new.activity ≡ activity_in t (state_of (at_tick (tick + 1) world) p).part = does ∙ ap (activity_in t) at in
+      let own : is_at is_same world p t (tick + 1) new.activity ≡ true =
+      ap (is_same (activity_in t (state_of (at_tick (tick + 1) world) p).part)) here ∙ law.refl (activity_in t (state_of (at_tick (tick + 1) world) p).part) in record {
+        does = own;
+        since = λ k from to. let last : k ≡ tick + 1 = omega (arith, from, to, began) in subst (λ (j : ℕ). is_at is_same world p t j new.activity ≡ true) (sym last) own;
+        other = λ some. ap (λ (j : ℕ). is_at is_same world p t j new.activity) began
+            ∙ (law.congr (activity_in t (state_of (at_tick tick world) p).part) old.activity new.activity (does_before tick old seen (omega (arith, some, began)))
+            ∙ (law.symm old.activity new.activity ∙ (ap (λ (a : Activity). is_same a old.activity) does ∙ test)));
+      }
+
+  -- over ticks at which the thread goes on as it does
+  pub stayed_on : (from to : ℕ) (history : History) → from ≤ to
+      → ((k : ℕ) → from ≤ k → k ≤ to → activity_in t (state_of (at_tick k world) p).part ≡ activity_in t (state_of (at_tick from world) p).part)
+      → IsSince is_same world p t from history → IsSince is_same world p t to history
+  stayed_on from to history order stays so = record {
+    does = ap (λ (a : Activity). is_same a history.activity) (stays to order (omega arith)) ∙ so.does;
+    since = λ k begun within. elim (cases_order k from) [
+      | inl same ↦ so.since k begun (omega (arith, same))
+      | inr apart ↦ elim apart [
+        | inl before ↦ so.since k begun (omega (arith, before))
+        | inr after ↦ ap (λ (a : Activity). is_same a history.activity) (stays k (omega (arith, after)) within) ∙ so.does
+      ]
+    ];
+    other = so.other;
+  }
+
+-- ---- all histories
+
+pub none_seen : (is_same : Activity → Activity → Bool) (world : World) (p tick : ℕ) (histories : List History) → tick ≡ 0 → AreNew histories → AreSeen is_same world p tick histories
+none_seen is_same world p tick histories begins new = λ place default within few. inl (begins, new place default within)
+
+pub all_seen : (is_same : Activity → Activity → Bool) (world : World) (p tick : ℕ) (histories : List History) → AreSince is_same world p tick histories → AreSeen is_same world p tick histories
+all_seen is_same world p tick histories are = λ place default within few. inr (are place default within few)
+
+-- after the first tick something has been seen
+pub all_since : (is_same : Activity → Activity → Bool) (world : World) (p tick : ℕ) (histories : List History) → 0 < tick → AreSeen is_same world p tick histories → AreSince is_same world p tick histories
+all_since is_same world p tick histories some are = λ place default within few. elim (are place default within few) [ inl new ↦ absurd (omega (arith, some, new.0)) | inr so ↦ so ]
+
+pub all_looked : (is_same : Activity → Activity → Bool) (law : IsEquivalence is_same) (world : World) (p tick : ℕ) (s : Part) (before after : List History)
+    → s ≡ (state_of (at_tick (tick + 1) world) p).part → length after ≡ length before → AreLooked is_same s tick before after → AreSeen is_same world p tick before
+    → AreSince is_same world p (tick + 1) after
+all_looked is_same law world p tick s before after at kept looks seen = λ place default within few.
+    let old : History = slice_index_or before place default in
+    let there : place < length before = omega (arith, within, kept) in
+    let e : slice_index_or after place default ≡ looked is_same s (place + 1) tick old = looks place default there few in
+    looked_on is_same law world p (place + 1) tick old (slice_index_or after place default) s (is_same (activity_in (place + 1) s) old.activity) at refl
+    (ap (λ (h : History). h.activity) e) (ap (λ (h : History). h.since) e) (seen place default there few)
+
+pub all_stayed : (is_same : Activity → Activity → Bool) (law : IsEquivalence is_same) (world : World) (p from to : ℕ) (histories : List History) → from ≤ to
+    → ((t k : ℕ) → from ≤ k → k ≤ to → activity_in t (state_of (at_tick k world) p).part ≡ activity_in t (state_of (at_tick from world) p).part)
+    → AreSince is_same world p from histories → AreSince is_same world p to histories
+all_stayed is_same law world p from to histories order stays are = λ place default within few.
+    stayed_on is_same law world p (place + 1) from to (slice_index_or histories place default) order (stays (place + 1)) (are place default within few)
+
+-- ---- from look to look
+
+rests_at : (world : World) (p m next : ℕ) → ((k : ℕ) → m ≤ k → k ≤ next → but_next (state_of (at_tick k world) p) ≡ but_next (state_of (at_tick m world) p)) → (t k : ℕ) → m ≤ k → k ≤ next
+    → activity_in t (state_of (at_tick k world) p).part ≡ activity_in t (state_of (at_tick m world) p).part
+rests_at world p m next rests t k from to = ap (λ (s : State). activity_in t s.part) (rests k from to)
+
+-- a row of plain steps, and then nothing up to the next look
+pub stays_over : (world : World) (p tick m next after : ℕ) → tick + 1 ≤ m → after ≡ max next (tick + 1) → ((t k : ℕ) → tick + 1 ≤ k → k ≤ m → activity_in t (state_of (at_tick k world) p).part ≡ activity_in t (state_of (at_tick (tick + 1) world) p).part)
+    → ((k : ℕ) → m ≤ k → k ≤ next → but_next (state_of (at_tick k world) p) ≡ but_next (state_of (at_tick m world) p)) → (t k : ℕ) → tick + 1 ≤ k → k ≤ after
+    → activity_in t (state_of (at_tick k world) p).part ≡ activity_in t (state_of (at_tick (tick + 1) world) p).part
+stays_over world p tick m next after first is goes rests t k from to = elim (cases_order k m) [
+  | inl same ↦ goes t k from (omega (arith, same))
+  | inr order ↦ elim order [
+    | inl before ↦ goes t k from (omega (arith, before))
+    | inr behind ↦ rests_at world p m next rests t k (omega (arith, behind)) (omega (arith, behind, to, is, first)) ∙ goes t m first (omega arith)
+  ]
+]
+
+-- ---- at the ends
+
+pub filled_new : (n : ℕ) (item : History) (histories : List History) → histories ≡ filled item n → item ≡ no_history → AreNew histories
+filled_new n item histories is blank = λ place default within.
+    let inside : place < n = omega (arith, within, ap length is, length-replicate n item) in
+    ap (λ (hs : List History). (slice_index_or hs place default).since) is
+    ∙ (ap (λ (h : History). h.since) (get_or-replicate n place item default inside) ∙ ap (λ (h : History). h.since) blank)
+
+pub written_since : (is_same : Activity → Activity → Bool) (world : World) (p to : ℕ) (new items : List History) (n : ℕ) → n ≡ length new → AreSince is_same world p to new
+    → AreSince is_same world p to (take n (new ++ drop (length new) items))
+written_since is_same world p to new items n all are =
+    let written : take n (new ++ drop (length new) items) ≡ new =
+    ap (λ (k : ℕ). take k (new ++ drop (length new) items)) all
+    ∙ (take-append-le (length new) new (drop (length new) items) (omega arith) ∙ take_all (length new) new (omega arith)) in
+    subst (AreSince is_same world p to) (sym written) are

@@ -1,0 +1,66 @@
+-- Since when a thread does what it does, as it is seen at a partition's decisions.
+use Rattle.std.specs.Prelude.{◌≡◌, ℕ, ◌+◌, ◌<◌, ◌≤◌, Bool, true, false, List, length, min, if◌then◌else◌, Option, Some, None, slice_index_or}
+use Rattle.ptk_words.specs.Names.{Pointer, ThreadNumber, Tick, Word}
+use Rattle.ptk_words.specs.declared.TheConstants.{SP, THREAD_LIMIT}
+use Rattle.ptk_words_model.specs.State.{Part}
+use Rattle.ptk_main_runs.specs.Activity.{Activity}
+use Rattle.ptk_main_runs.specs.Activity.TheVariants.{Free, Running, Ready, Blocked, Ended, Halted}
+use Rattle.ptk_main_runs.specs.Activities.{activity_in}
+use Rattle.ptk_main_runs.specs.Told.{register_in}
+use Rattle.ptk_main_runs.specs.World.{World, at_tick, state_of}
+use Rattle.ptk_explanation_facts.specs.declared.history.History.{History}
+
+-- of a number that no thread ever had (own)
+abbrev pub no_history : History
+no_history = record { activity = Free; since = 0; least_stack = None }
+
+-- the lesser of two values, of which either may be missing (own)
+abbrev pub lesser : Option Word → Option Word → Option Word
+lesser None b = b
+lesser (Some a) None = Some a
+lesser (Some a) (Some b) = Some (min a b)
+
+-- the least stack pointer seen so far of a thread that does this: a thread that has a number anew begins anew (own)
+abbrev pub least_before : Activity → Option Pointer → Option Pointer
+least_before Free least = None
+least_before Running least = least
+least_before Ready least = least
+least_before (Blocked wait) least = least
+least_before Ended least = least
+least_before Halted least = least
+
+-- what is seen of the thread of a number after the decision at a tick: what it does, since when, and the least of its stack pointers; `is_same` says whether it does the same as before (own)
+abbrev pub looked : (Activity → Activity → Bool) → Part → ThreadNumber → Tick → History → History
+looked is_same s t tick history =
+    record {
+      activity = activity_in t s;
+      since = if is_same (activity_in t s) history.activity then history.since else tick;
+      least_stack = lesser (least_before (activity_in t s) history.least_stack) (register_in t SP s);
+    }
+
+-- after the decision at a tick each history is what is seen then of the thread of its number, for the first THREAD_LIMIT histories, since a partition has no more threads (own)
+abbrev pub AreLooked : (Activity → Activity → Bool) → Part → Tick → List History → List History → Type 0
+AreLooked is_same s tick before after =
+    (place : ℕ) (default : History) → place < length before → place < THREAD_LIMIT →
+    slice_index_or after place default ≡ looked is_same s (place + 1) tick (slice_index_or before place default)
+
+-- ---- since when
+
+-- at a tick of a run the thread of a number does this (own)
+abbrev pub is_at : (Activity → Activity → Bool) → World → ℕ → ThreadNumber → Tick → Activity → Bool
+is_at is_same world p t tick activity = is_same (activity_in t (state_of (at_tick tick world) p).part) activity
+
+-- at a tick of a run the thread of a number does what its history says, and has done so behind each decision from the history's tick on; before that decision it did something else, unless it is the first (own)
+pub record IsSince (is_same : Activity → Activity → Bool) (world : World) (p t tick : ℕ) (history : History) : Type 0 where
+  pub does : is_at is_same world p t tick history.activity ≡ true
+  pub since : (k : ℕ) → history.since < k → k ≤ tick → is_at is_same world p t k history.activity ≡ true
+  pub other : 0 < history.since → is_at is_same world p t history.since history.activity ≡ false
+
+-- so says each history of the thread of its number, for the first THREAD_LIMIT histories, since a partition has no more threads (own)
+abbrev pub AreSince : (Activity → Activity → Bool) → World → ℕ → Tick → List History → Type 0
+AreSince is_same world p tick histories =
+    (place : ℕ) (default : History) → place < length histories → place < THREAD_LIMIT → IsSince is_same world p (place + 1) tick (slice_index_or histories place default)
+
+-- no history has begun (own)
+abbrev pub AreNew : List History → Type 0
+AreNew histories = (place : ℕ) (default : History) → place < length histories → (slice_index_or histories place default).since ≡ 0
