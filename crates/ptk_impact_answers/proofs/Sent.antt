@@ -141,17 +141,17 @@ limit_sent key limit change old new a b is e1 e2 sent =
     subst (λ (o : Option LimitChange). SendsAll (limit_member key o) a b) (sym is) made
 
 -- the keys that are lent are the keys
-keys_read : (limits : List (Bor (List ℕ) × Option LimitChange))
-    → flat_map (λ (limit : Bor (List ℕ) × Option LimitChange). limit_member limit.0.now limit.1) limits ≡ flat_map (λ (limit : List ℕ × Option LimitChange). limit_member limit.0 limit.1) (map (λ (limit : Bor (List ℕ) × Option LimitChange). (limit.0.now, limit.1)) limits)
-keys_read [] = refl
-keys_read (limit ∷ limits) = ap (λ (es : List Event). limit_member limit.0.now limit.1 ++ es) (keys_read limits)
+pub keys_read : {A : Type 0} (f : List ℕ → Option LimitChange → List A) (limits : List (Bor (List ℕ) × Option LimitChange))
+    → flat_map (λ (limit : Bor (List ℕ) × Option LimitChange). f limit.0.now limit.1) limits ≡ flat_map (λ (limit : List ℕ × Option LimitChange). f limit.0 limit.1) (map (λ (limit : Bor (List ℕ) × Option LimitChange). (limit.0.now, limit.1)) limits)
+keys_read f [] = refl
+keys_read f (limit ∷ limits) = ap (λ (es : List _). f limit.0.now limit.1 ++ es) (keys_read f limits)
 
 pub limits_sent : (limits : List (Bor (List ℕ) × Option LimitChange)) (a b c d e : Log) → Logs a b (field_key (codes "limits") AsIs) → Logs b c (map_begins None)
     → SendsAll (flat_map (λ (limit : Bor (List ℕ) × Option LimitChange). limit_member limit.0.now limit.1) limits) c d → Logs d e map_ends
     → SendsAll (limits_member (map (λ (limit : Bor (List ℕ) × Option LimitChange). (limit.0.now, limit.1)) limits)) a e
 limits_sent limits a b c d e named begins sent ends =
     object_member_sent (codes "limits") (flat_map (λ (limit : List ℕ × Option LimitChange). limit_member limit.0 limit.1) (map (λ (limit : Bor (List ℕ) × Option LimitChange). (limit.0.now, limit.1)) limits)) a b c d e
-    named begins (subst (λ (es : List Event). SendsAll es c d) (keys_read limits) sent) ends
+    named begins (subst (λ (es : List Event). SendsAll es c d) (keys_read limit_member limits) sent) ends
 
 pub same_sent : {A : Type 0} (value other : A) (answer : Bool) (events : List Event) (a : Log) → IsTrue answer ↔ (value ≢ other) → answer ≡ false → SendsIfOther value other events a a
 same_sent value other answer events a told is = (λ same. refl, λ differs. let never : false ≡ true = sym is ∙ told.1 differs in absurd (cc))

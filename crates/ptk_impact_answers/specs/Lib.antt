@@ -1,6 +1,7 @@
 pub mod Comparisons
 pub mod Counts
 pub mod Documents
+pub mod Lines
 pub mod Matching
 pub mod Renaming
 pub mod SameRuns

@@ -12,7 +12,7 @@ ghost use Rattle.ptk_impact_answers.specs.Refusals.{refusal, unknown_asked, unkn
 ghost use Rattle.ptk_impact_answers.specs.Renaming.{renames_of};
 ghost use Rattle.ptk_impact_answers.specs.SameRuns.{AreSameRuns, AreSeenAlike, AreStillThere, IsStillThereIfAsked, WasSeenAlikeIfAsked, WereSeenAlike, subject_at};
 ghost use Rattle.ptk_impact_answers.specs.Tallies.{AreCounts, CountsAllGone, CountsAllNew, CountsBoth, CountsGone, CountsNew};
-ghost use Rattle.ptk_impact_answers.specs.Written.{PutsAllGone, PutsAllNew, PutsAnswer, PutsBoth, PutsGone, PutsNew};
+ghost use Rattle.ptk_impact_answers.specs.Written.{PutsAllGone, PutsAllNew, PutsAnswer, PutsBoth, PutsGone, PutsInForm, PutsLines, PutsNew};
 
 use crate::comparison::{Comparison, Pair};
 use crate::form::{Form, put_alone, put_beginning, put_comparison, put_counts};
@@ -67,6 +67,8 @@ pub fn impact_with<'a, 'f, W: Write>(
         IsClear tally ↔ AreSameRuns renames question.entry.partition old.entry new.entry)) }
     ensures counted { IfOk result (λ tally. IsOkAnd (renames_of question.entry.rename) (λ renames.
         AreCounts renames question.entry.partition old.entry new.entry tally)) }
+    ensures lines { IfOk result (λ tally. IsOkAnd (renames_of question.entry.rename) (λ renames.
+        PutsLines renames question.entry.partition old.entry new.entry tally (W.contents out.old) (W.contents out.new))) }
     ensures refused { MatchResult result
         (λ _. refusal old.entry new.entry question.entry ≡ None)
         (λ fault. fault ≢ Fault.NoMemory → fault ≢ Fault.WriteFailed → refusal old.entry new.entry question.entry ≡ Some (told fault)) }
@@ -113,8 +115,8 @@ fn impact_in<'a, 'f, W: Write>(
         IsClear tally ↔ AreSameRuns renames question.entry.partition old.entry new.entry)) }
     ensures counted { IfOk result (λ tally. IsOkAnd (renames_of question.entry.rename) (λ renames.
         AreCounts renames question.entry.partition old.entry new.entry tally)) }
-    ensures json { IfOk result (λ tally. form ≡ Form.Json → IsOkAnd (renames_of question.entry.rename) (λ renames.
-        PutsAnswer renames question.entry.partition old.entry new.entry tally (W.contents out.old) (W.contents out.new))) }
+    ensures written { IfOk result (λ tally. IsOkAnd (renames_of question.entry.rename) (λ renames.
+        PutsInForm form renames question.entry.partition old.entry new.entry tally (W.contents out.old) (W.contents out.new))) }
     ensures refused { MatchResult result
         (λ _. refusal old.entry new.entry question.entry ≡ None)
         (λ fault. fault ≢ Fault.NoMemory → fault ≢ Fault.WriteFailed → refusal old.entry new.entry question.entry ≡ Some (told fault)) }
@@ -225,7 +227,7 @@ impl<'a, 'f> Releases<'a, 'f> {
     ) -> Result<Tally, PutFault>
         ensures same { IfOk result (λ tally. IsClear tally ↔ AreSameRuns self.now.renames question.now.partition self.now.old self.now.new) }
         ensures counted { IfOk result (AreCounts self.now.renames question.now.partition self.now.old self.now.new) }
-        ensures json { IfOk result (λ tally. form ≡ Form.Json → PutsAnswer self.now.renames question.now.partition self.now.old self.now.new tally
+        ensures written { IfOk result (λ tally. PutsInForm form self.now.renames question.now.partition self.now.old self.now.new tally
             (W.contents out.old) (W.contents out.new)) }
     {
         let _new_sections = self.new.sections();
@@ -250,7 +252,7 @@ impl<'a, 'f> Releases<'a, 'f> {
         ensures same { OnOk result (IsClear tally.new ↔ (IsClear tally.old
             × WereSeenAlike self.now.renames question.now.partition self.now.old self.now.new (length self.now.new.config.now.sections))) }
         ensures counted { OnOk result (CountsAllNew self.now.renames question.now.partition self.now.old self.now.new tally.old tally.new) }
-        ensures json { OnOk result (form ≡ Form.Json → PutsAllNew self.now.renames question.now.partition self.now.old self.now.new
+        ensures written { OnOk result (PutsAllNew form self.now.renames question.now.partition self.now.old self.now.new
             (tally.old, W.contents out.old) (tally.new, W.contents out.new)) }
     {
         for place in 0..self.new.sections().len() {
@@ -271,7 +273,7 @@ impl<'a, 'f> Releases<'a, 'f> {
         ensures same { OnOk result (IsClear tally.new ↔ (IsClear tally.old
             × AreStillThere self.now.renames question.now.partition self.now.old self.now.new (length self.now.old.config.now.sections))) }
         ensures counted { OnOk result (CountsAllGone self.now.renames question.now.partition self.now.old self.now.new tally.old tally.new) }
-        ensures json { OnOk result (form ≡ Form.Json → PutsAllGone self.now.renames question.now.partition self.now.old self.now.new
+        ensures written { OnOk result (PutsAllGone form self.now.renames question.now.partition self.now.old self.now.new
             (tally.old, W.contents out.old) (tally.new, W.contents out.new)) }
     {
         for place in 0..self.old.sections().len() {
@@ -294,7 +296,7 @@ impl<'a, 'f> Releases<'a, 'f> {
         ensures same { OnOk result (IsClear tally.new ↔ (IsClear tally.old
             × WasSeenAlikeIfAsked self.now.renames question.now.partition self.now.old self.now.new place)) }
         ensures counted { OnOk result (CountsNew self.now.renames question.now.partition self.now.old self.now.new place tally.old tally.new) }
-        ensures json { OnOk result (form ≡ Form.Json → PutsNew self.now.renames question.now.partition self.now.old self.now.new place
+        ensures written { OnOk result (PutsNew form self.now.renames question.now.partition self.now.old self.now.new place
             (tally.old, W.contents out.old) (tally.new, W.contents out.new)) }
     {
         let name = self.new.name_at(place);
@@ -345,7 +347,7 @@ impl<'a, 'f> Releases<'a, 'f> {
         requires new { places.new < length self.now.new.config.now.sections }
         ensures same { OnOk result (IsClear tally.new ↔ (IsClear tally.old × AreSeenAlike self.now.old places.old self.now.new places.new)) }
         ensures counted { OnOk result (CountsBoth self.now.old places.old self.now.new places.new tally.old tally.new) }
-        ensures json { OnOk result (form ≡ Form.Json → PutsBoth self.now.old places.old self.now.new places.new
+        ensures written { OnOk result (PutsBoth form self.now.old places.old self.now.new places.new
             (tally.old, W.contents out.old) (tally.new, W.contents out.new)) }
     {
         let Ok(comparison) = self.comparison(alloc, places) else {
@@ -410,7 +412,7 @@ impl<'a, 'f> Releases<'a, 'f> {
         ensures same { OnOk result (IsClear tally.new ↔ (IsClear tally.old
             × IsStillThereIfAsked self.now.renames question.now.partition self.now.old self.now.new place)) }
         ensures counted { OnOk result (CountsGone self.now.renames question.now.partition self.now.old self.now.new place tally.old tally.new) }
-        ensures json { OnOk result (form ≡ Form.Json → PutsGone self.now.renames question.now.partition self.now.old self.now.new place
+        ensures written { OnOk result (PutsGone form self.now.renames question.now.partition self.now.old self.now.new place
             (tally.old, W.contents out.old) (tally.new, W.contents out.new)) }
     {
         let name = self.old.name_at(place);

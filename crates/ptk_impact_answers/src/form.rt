@@ -2,11 +2,12 @@
 
 ghost use Rattle.std.specs.Prelude.{◌≡◌, ◌++◌, OnOk, string_bytes};
 ghost use Rattle.std.specs.Io.KnownBytes.{Appends};
-ghost use Rattle.ptk_impact_answers.specs.Documents.{IsAlone, IsCompared, PutsObject, beginning_text, comma_behind, counts_text};
+ghost use Rattle.ptk_impact_answers.specs.Documents.{IsAlone, IsCompared, PutsObject, comma_behind, counts_text};
+ghost use Rattle.ptk_impact_answers.specs.Written.{PutsAlone, PutsCompared, beginning_of, counts_of};
 
 use crate::comparison::Comparison;
 use crate::document::{json_of, json_of_alone};
-use crate::lines::put_lines;
+use crate::lines::{put_answer, put_lines};
 use crate::tally::Tally;
 use ptk_main_runs::PutFault;
 use std::alloc::Global;
@@ -24,7 +25,7 @@ pub(crate) enum Form {
 
 /// Writes what stands before the partitions.
 pub(crate) fn put_beginning<W: Write>(form: Form, out: &mut W) -> io::Result<()>
-    ensures { OnOk result (form ≡ Form.Json → Appends (W.contents out.old) (W.contents out.new) beginning_text) }
+    ensures { OnOk result (Appends (W.contents out.old) (W.contents out.new) (beginning_of form)) }
 {
     match form {
         Form::Lines => Ok(()),
@@ -40,7 +41,7 @@ pub(crate) fn put_comparison<W: Write>(
     comparison: &Comparison<'_>,
     out: &mut W,
 ) -> Result<(), PutFault>
-    ensures { OnOk result (form ≡ Form.Json → PutsObject (IsCompared comparison.now) tally.now (W.contents out.old) (W.contents out.new)) }
+    ensures { OnOk result (PutsCompared form comparison.now tally.now (W.contents out.old) (W.contents out.new)) }
 {
     match form {
         Form::Lines => {
@@ -74,11 +75,11 @@ pub(crate) fn put_alone<W: Write>(
     answer: &'static str,
     out: &mut W,
 ) -> Result<(), PutFault>
-    ensures { OnOk result (form ≡ Form.Json → PutsObject (IsAlone name.now answer.now) tally.now (W.contents out.old) (W.contents out.new)) }
+    ensures { OnOk result (PutsAlone form name.now answer.now tally.now (W.contents out.old) (W.contents out.new)) }
 {
     match form {
         Form::Lines => {
-            writeln!(out, "{name}: {answer}")?;
+            put_answer(name, answer, out)?;
             Ok(())
         }
         Form::Json => put_object_of_one(alloc, tally, name, answer, out),
@@ -117,7 +118,7 @@ fn comma_behind(tally: &Tally) -> &'static str
 
 /// Writes the counts, behind the partitions.
 pub(crate) fn put_counts<W: Write>(form: Form, tally: &Tally, out: &mut W) -> io::Result<()>
-    ensures { OnOk result (form ≡ Form.Json → Appends (W.contents out.old) (W.contents out.new) (counts_text tally.now)) }
+    ensures { OnOk result (Appends (W.contents out.old) (W.contents out.new) (counts_of form tally.now)) }
 {
     match form {
         Form::Lines => writeln!(out, "{tally}"),

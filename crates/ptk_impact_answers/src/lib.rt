@@ -11,11 +11,12 @@
 //!   length (`same`).
 //! - `impact_json_with` writes one object: of each partition that is counted its name, its answer and what differs, in
 //!   their order, and then the counts (`json`).
+//! - `impact_with` writes lines: of each partition that is counted the line with its name and its answer, then what
+//!   differs and why boot refuses its images, a line each, in their order, and then the counts (`lines`).
 //! - The renames are those that the text of the question states, none without a text.
 //! - A question is refused for the first missing image, else for the first name of no partition (`refused`,
 //!   `accepted`), and then nothing is written (`silent`).
 //! - `refusal_of` returns why an image is refused.
-//! - The lines of text are tested.
 //!
 //! There is a line for each partition of the new configuration, by name, with what differs beneath, then one for each
 //! that is gone, and a last line that counts. Below are `ptk_impact`, the configuration (`ptk_config`), images

@@ -1,7 +1,8 @@
 //! How many partitions have which impact.
 
-ghost use Rattle.std.specs.Prelude.{◌≡◌, ◌↔◌, IsTrue};
+ghost use Rattle.std.specs.Prelude.{◌≡◌, ◌↔◌, Some, IsTrue};
 ghost use Rattle.ptk_impact_answers.specs.Counts.{IsClear, IsNoChange, counted, is_empty, no_counts, with_added, with_removed};
+ghost use Rattle.ptk_impact_answers.specs.Lines.{counts_words};
 
 use ptk_impact::Impact;
 use std::fmt;
@@ -85,6 +86,8 @@ impl Tally {
 }
 
 impl fmt::Display for Tally {
+    ghost output = { λ t. Some (counts_words t) };
+
     fn fmt<W: fmt::Write>(&self, f: &mut fmt::Formatter<W>) -> fmt::Result {
         let (unchanged, but_for_trace) = (self.unchanged, self.but_for_trace);
         write!(

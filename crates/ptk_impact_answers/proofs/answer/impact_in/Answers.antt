@@ -5,7 +5,7 @@ use Rattle.ptk_impact_answers.specs.Counts.{IsClear}
 use Rattle.ptk_impact_answers.specs.Matching.{Renamed}
 use Rattle.ptk_impact_answers.specs.SameRuns.{AreSameRuns}
 use Rattle.ptk_impact_answers.specs.Tallies.{AreCounts}
-use Rattle.ptk_impact_answers.specs.Written.{PutsAnswer}
+use Rattle.ptk_impact_answers.specs.Written.{PutsInForm}
 use Rattle.ptk_impact_answers.proofs.answer.impact_in.Goals as goal
 
 -- what is said of these renames and releases is said of the same ones
@@ -27,8 +27,8 @@ returns-in-Ok-clause-counted g c =
     said_of_same (λ renames old new. AreCounts renames c.args.question.partition old new c.in-Ok.tally)
     _ c.in_ok-releases.releases.renames _ _ c.args.old c.args.new kept.0 kept.1 kept.2 c.in-Ok.ensures.counted
 
-pub returns-in-Ok-clause-json : goal.returns-in-Ok-clause-json
-returns-in-Ok-clause-json g c = λ json.
+pub returns-in-Ok-clause-written : goal.returns-in-Ok-clause-written
+returns-in-Ok-clause-written g c =
     let kept = c.in_ok-releases.ensures.kept in
-    said_of_same (λ renames old new. PutsAnswer renames c.args.question.partition old new c.in-Ok.tally (g.W.Write.contents c.args.out.now) (g.W.Write.contents c.put.new.out))
-    _ c.in_ok-releases.releases.renames _ _ c.args.old c.args.new kept.0 kept.1 kept.2 (c.in-Ok.ensures.json json)
+    said_of_same (λ renames old new. PutsInForm c.args.form renames c.args.question.partition old new c.in-Ok.tally (g.W.Write.contents c.args.out.now) (g.W.Write.contents c.put.new.out))
+    _ c.in_ok-releases.releases.renames _ _ c.args.old c.args.new kept.0 kept.1 kept.2 c.in-Ok.ensures.written

@@ -20,14 +20,14 @@ returns-clause-counted g c =
     c.new-tally.ensures c.in_ok-put_all_new.ensures.counted)
     c.in_ok-put_all_gone.ensures.counted
 
-pub returns-clause-json : goal.returns-clause-json
-returns-clause-json g c = λ json. (
+pub returns-clause-written : goal.returns-clause-written
+returns-clause-written g c = (
   g.W.Write.contents c.put_beginning.new.out,
   (c.put_all_new.new.tally, g.W.Write.contents c.put_all_new.new.out),
   g.W.Write.contents c.put_all_gone.new.out,
-  c.in_ok-put_beginning.ensures json,
-  subst (λ (tally : Tally). PutsAllNew c.args.self.now.renames c.args.question.now.partition c.args.self.now.old c.args.self.now.new (tally, g.W.Write.contents c.put_beginning.new.out)
-      (c.put_all_new.new.tally, g.W.Write.contents c.put_all_new.new.out)) c.new-tally.ensures (c.in_ok-put_all_new.ensures.json json),
-  c.in_ok-put_all_gone.ensures.json json,
-  c.in_ok-put_counts.ensures json,
+  c.in_ok-put_beginning.ensures,
+  subst (λ (tally : Tally). PutsAllNew c.args.form c.args.self.now.renames c.args.question.now.partition c.args.self.now.old c.args.self.now.new (tally, g.W.Write.contents c.put_beginning.new.out)
+      (c.put_all_new.new.tally, g.W.Write.contents c.put_all_new.new.out)) c.new-tally.ensures c.in_ok-put_all_new.ensures.written,
+  c.in_ok-put_all_gone.ensures.written,
+  c.in_ok-put_counts.ensures,
 )

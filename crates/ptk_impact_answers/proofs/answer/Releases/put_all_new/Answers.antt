@@ -11,7 +11,7 @@ pub loop-place-init : goal.loop-place-init
 loop-place-init g c = record {
   same = none_holds (WasSeenAlikeIfAsked c.args.self.now.renames c.args.question.now.partition c.args.self.now.old c.args.self.now.new) (IsClear c.args.tally.now);
   counted = refl;
-  json = λ json. refl;
+  written = refl;
 }
 
 pub loop-place-preserved : goal.loop-place-preserved
@@ -20,9 +20,9 @@ loop-place-preserved g c = record {
       (IsClear c.args.tally.now) (IsClear c.loop-place.tally) (IsClear c.put_new.new.tally) c.loop-place.invariant.same c.in_ok-put_new.ensures.same;
   counted = next_step (CountsNew c.args.self.now.renames c.args.question.now.partition c.args.self.now.old c.args.self.now.new) c.loop-place.place
       c.args.tally.now c.loop-place.tally c.put_new.new.tally c.loop-place.invariant.counted c.in_ok-put_new.ensures.counted;
-  json = λ json. next_step (PutsNew c.args.self.now.renames c.args.question.now.partition c.args.self.now.old c.args.self.now.new) c.loop-place.place
+  written = next_step (PutsNew c.args.form c.args.self.now.renames c.args.question.now.partition c.args.self.now.old c.args.self.now.new) c.loop-place.place
       (c.args.tally.now, g.W.Write.contents c.args.out.now) (c.loop-place.tally, g.W.Write.contents c.loop-place.out)
-      (c.put_new.new.tally, g.W.Write.contents c.put_new.new.out) (c.loop-place.invariant.json json) (c.in_ok-put_new.ensures.json json);
+      (c.put_new.new.tally, g.W.Write.contents c.put_new.new.out) c.loop-place.invariant.written c.in_ok-put_new.ensures.written;
 }
 
 pub returns-clause-counted : goal.returns-clause-counted
@@ -31,9 +31,9 @@ returns-clause-counted g c =
     all_steps (CountsNew c.args.self.now.renames c.args.question.now.partition c.args.self.now.old c.args.self.now.new) c.loop-place.place _ c.args.tally.now c.loop-place.tally
     (here ∙ ap (λ (sections : List Section). length sections) c.sections-place-end.ensures.value) c.loop-place.invariant.counted
 
-pub returns-clause-json : goal.returns-clause-json
-returns-clause-json g c = λ json.
+pub returns-clause-written : goal.returns-clause-written
+returns-clause-written g c =
     let here : c.loop-place.place ≡ length c.sections-place-end.result.now = omega arith in
-    all_steps (PutsNew c.args.self.now.renames c.args.question.now.partition c.args.self.now.old c.args.self.now.new) c.loop-place.place _
+    all_steps (PutsNew c.args.form c.args.self.now.renames c.args.question.now.partition c.args.self.now.old c.args.self.now.new) c.loop-place.place _
     (c.args.tally.now, g.W.Write.contents c.args.out.now) (c.loop-place.tally, g.W.Write.contents c.loop-place.out)
-    (here ∙ ap (λ (sections : List Section). length sections) c.sections-place-end.ensures.value) (c.loop-place.invariant.json json)
+    (here ∙ ap (λ (sections : List Section). length sections) c.sections-place-end.ensures.value) c.loop-place.invariant.written

@@ -12,8 +12,8 @@ returns-clause-same g c =
 pub returns-clause-counted : goal.returns-clause-counted
 returns-clause-counted g c = (c.in-Ok.comparison.impact, c.in-Ok.ensures.impact, c.count.ensures.counted)
 
-pub returns-clause-json : goal.returns-clause-json
-returns-clause-json g c = λ json.
+pub returns-clause-written : goal.returns-clause-written
+returns-clause-written g c =
     let found = c.in-Ok.ensures in (
       c.in-Ok.comparison,
       record {
@@ -29,6 +29,6 @@ returns-clause-json g c = λ json.
         old_refusal = found.old_refusal;
         new_refusal = found.new_refusal;
       },
-      c.in_ok-put_comparison.ensures json,
+      c.in_ok-put_comparison.ensures,
       c.count.ensures.counted,
     )

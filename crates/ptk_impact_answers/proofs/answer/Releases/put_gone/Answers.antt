@@ -13,14 +13,14 @@ returns-clause-counted g c =
     removed_counted c.args.self.now.renames c.args.question.now.partition c.args.self.now.old c.args.self.now.new c.args.place c.name_at-name.result.now
     c.is_gone.result c.args.tally.now c.count_removed.new.self c.name_at-name.ensures c.is_gone.ensures c.if-not-is_gone.false c.count_removed.ensures.counted
 
-pub returns-then-not-is_gone-clause-json : goal.returns-then-not-is_gone-clause-json
-returns-then-not-is_gone-clause-json g c = λ json.
-    kept_put c.args.self.now.renames c.args.question.now.partition c.args.self.now.old c.args.self.now.new c.args.place c.name_at-name.result.now
+pub returns-then-not-is_gone-clause-written : goal.returns-then-not-is_gone-clause-written
+returns-then-not-is_gone-clause-written g c =
+    kept_put c.args.form c.args.self.now.renames c.args.question.now.partition c.args.self.now.old c.args.self.now.new c.args.place c.name_at-name.result.now
     c.is_gone.result (c.args.tally.now, g.W.Write.contents c.args.out.now) (c.args.tally.now, g.W.Write.contents c.args.out.now) c.name_at-name.ensures c.is_gone.ensures
     c.if-not-is_gone.true refl
 
-pub returns-clause-json : goal.returns-clause-json
-returns-clause-json g c = λ json.
-    removed_put c.args.self.now.renames c.args.question.now.partition c.args.self.now.old c.args.self.now.new c.args.place c.name_at-name.result.now
+pub returns-clause-written : goal.returns-clause-written
+returns-clause-written g c =
+    removed_put c.args.form c.args.self.now.renames c.args.question.now.partition c.args.self.now.old c.args.self.now.new c.args.place c.name_at-name.result.now
     c.is_gone.result (c.args.tally.now, g.W.Write.contents c.args.out.now) (c.count_removed.new.self, g.W.Write.contents c.put_alone.new.out) c.name_at-name.ensures c.is_gone.ensures
-    c.if-not-is_gone.false (c.in_ok-put_alone.ensures json) c.count_removed.ensures.counted
+    c.if-not-is_gone.false c.in_ok-put_alone.ensures c.count_removed.ensures.counted

@@ -20,21 +20,21 @@ returns-in_ok-put_alone-in-None-clause-counted g c =
     added_counted c.args.self.now.renames c.args.question.now.partition c.args.self.now.old c.args.self.now.new c.args.place c.name_at-name.result.now
     c.is_for.result c.args.tally.now c.count_added.new.self c.name_at-name.ensures c.is_for.ensures c.if-not-is_for.false c.in-None.ensures.place c.count_added.ensures.counted
 
-pub returns-then-not-is_for-clause-json : goal.returns-then-not-is_for-clause-json
-returns-then-not-is_for-clause-json g c = λ json.
-    unasked_put c.args.self.now.renames c.args.question.now.partition c.args.self.now.old c.args.self.now.new c.args.place c.name_at-name.result.now
+pub returns-then-not-is_for-clause-written : goal.returns-then-not-is_for-clause-written
+returns-then-not-is_for-clause-written g c =
+    unasked_put c.args.form c.args.self.now.renames c.args.question.now.partition c.args.self.now.old c.args.self.now.new c.args.place c.name_at-name.result.now
     c.is_for.result (c.args.tally.now, g.W.Write.contents c.args.out.now) (c.args.tally.now, g.W.Write.contents c.args.out.now) c.name_at-name.ensures c.is_for.ensures
     c.if-not-is_for.true refl
 
-pub returns-in-Some-clause-json : goal.returns-in-Some-clause-json
-returns-in-Some-clause-json g c = on_ok_weaker c.put_both.result
-    (λ put json. both_put c.args.self.now.renames c.args.question.now.partition c.args.self.now.old c.args.self.now.new c.args.place c.name_at-name.result.now
+pub returns-in-Some-clause-written : goal.returns-in-Some-clause-written
+returns-in-Some-clause-written g c = on_ok_weaker c.put_both.result
+    (both_put c.args.form c.args.self.now.renames c.args.question.now.partition c.args.self.now.old c.args.self.now.new c.args.place c.name_at-name.result.now
     c.is_for.result (c.args.tally.now, g.W.Write.contents c.args.out.now) (c.put_both.new.tally, g.W.Write.contents c.put_both.new.out) c.name_at-name.ensures c.is_for.ensures
-    c.in-Some.before c.if-not-is_for.false c.in-Some.ensures.place (put json))
-    c.put_both.ensures.json
+    c.in-Some.before c.if-not-is_for.false c.in-Some.ensures.place)
+    c.put_both.ensures.written
 
-pub returns-in_ok-put_alone-in-None-clause-json : goal.returns-in_ok-put_alone-in-None-clause-json
-returns-in_ok-put_alone-in-None-clause-json g c = λ json.
-    added_put c.args.self.now.renames c.args.question.now.partition c.args.self.now.old c.args.self.now.new c.args.place c.name_at-name.result.now
+pub returns-in_ok-put_alone-in-None-clause-written : goal.returns-in_ok-put_alone-in-None-clause-written
+returns-in_ok-put_alone-in-None-clause-written g c =
+    added_put c.args.form c.args.self.now.renames c.args.question.now.partition c.args.self.now.old c.args.self.now.new c.args.place c.name_at-name.result.now
     c.is_for.result (c.args.tally.now, g.W.Write.contents c.args.out.now) (c.count_added.new.self, g.W.Write.contents c.put_alone.new.out) c.name_at-name.ensures c.is_for.ensures
-    c.if-not-is_for.false c.in-None.ensures.place (c.in_ok-put_alone-in-None.ensures json) c.count_added.ensures.counted
+    c.if-not-is_for.false c.in-None.ensures.place c.in_ok-put_alone-in-None.ensures c.count_added.ensures.counted
