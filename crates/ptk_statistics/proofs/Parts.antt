@@ -64,7 +64,7 @@ ended_on world parts i new within are here =
     λ p default below lt. all.each p default lt below
 
 -- what a slice of a vector's items is once it is written back
-pub written : (new items : List PartStatistics) (n : ℕ) → n ≡ length new → take n (new ++ drop (length new) items) ≡ new
+pub written : {A : Type 0} (new items : List A) (n : ℕ) → n ≡ length new → take n (new ++ drop (length new) items) ≡ new
 written new items n all =
     ap (λ (k : ℕ). take k (new ++ drop (length new) items)) all
     ∙ (take-append-le (length new) new (drop (length new) items) (omega arith) ∙ take_all (length new) new (omega arith))

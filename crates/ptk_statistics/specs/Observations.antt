@@ -47,6 +47,11 @@ is_timed doings.Mutex = true
 is_timed doings.Condition = true
 is_timed other = false
 
+-- the partition of the thread is halted (own)
+abbrev pub has_halted : Doing → Bool
+has_halted doings.Halted = true
+has_halted other = false
+
 -- ---- steps
 
 -- the partition's last step, if it began at the tick (own)

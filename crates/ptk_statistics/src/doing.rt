@@ -1,7 +1,9 @@
 //! The kind of what a thread does, of a system.
 
 ghost use Rattle.std.specs.Prelude.{◌≡◌};
-ghost use Rattle.ptk_statistics.specs.Observations.{doing_of, doing_of_wait, is_timed};
+ghost use Rattle.ptk_statistics_figures.specs.Doings.{is_ready, is_running};
+ghost use Rattle.ptk_statistics.specs.Observations.{doing_of, doing_of_wait, has_halted, is_timed};
+ghost use Rattle.ptk_statistics.specs.Gathering.{is_preemption};
 
 use ptk_main_runs::Activity;
 use ptk_statistics_figures::Doing;
@@ -50,5 +52,69 @@ pub(crate) fn is_timed(doing: Doing) -> bool
         | Doing::Relock
         | Doing::Ended
         | Doing::Halted => false,
+    }
+}
+
+/// Whether a thread that goes from the one to the other is preempted: it ran, and is ready.
+pub(crate) fn is_preemption(from: Doing, to: Doing) -> bool
+    ensures { result ≡ is_preemption from to }
+{
+    is_running(from) && is_ready(to)
+}
+
+/// Whether a thread is running.
+pub(crate) fn is_running(doing: Doing) -> bool
+    ensures { result ≡ is_running doing }
+{
+    match doing {
+        Doing::Running => true,
+        Doing::Free
+        | Doing::Ready
+        | Doing::Input
+        | Doing::Sleep
+        | Doing::Join
+        | Doing::Mutex
+        | Doing::Condition
+        | Doing::Relock
+        | Doing::Ended
+        | Doing::Halted => false,
+    }
+}
+
+/// Whether a thread is ready.
+pub(crate) fn is_ready(doing: Doing) -> bool
+    ensures { result ≡ is_ready doing }
+{
+    match doing {
+        Doing::Ready => true,
+        Doing::Free
+        | Doing::Running
+        | Doing::Input
+        | Doing::Sleep
+        | Doing::Join
+        | Doing::Mutex
+        | Doing::Condition
+        | Doing::Relock
+        | Doing::Ended
+        | Doing::Halted => false,
+    }
+}
+
+/// Whether the partition of a thread is halted.
+pub(crate) fn has_halted(doing: Doing) -> bool
+    ensures { result ≡ has_halted doing }
+{
+    match doing {
+        Doing::Halted => true,
+        Doing::Free
+        | Doing::Running
+        | Doing::Ready
+        | Doing::Input
+        | Doing::Sleep
+        | Doing::Join
+        | Doing::Mutex
+        | Doing::Condition
+        | Doing::Relock
+        | Doing::Ended => false,
     }
 }

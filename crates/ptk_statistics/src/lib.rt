@@ -6,7 +6,9 @@
 //! - `Statistics::of_run` is a run to its tick (`run`), and the counts agree with the system then (`agrees`: `Agrees`):
 //!   its steps, its lost ticks, its own ticks.
 //! - What a thread does, which step a decision began, and which call that step is are the definitions' (`doing_of`,
-//!   `step_at`, `number_in`). At which moments the figures of threads and mutexes are told of them is tested.
+//!   `step_at`, `number_in`). So is what a decision leaves of the figures of a thread that makes a step (`stepped`) and
+//!   of one that makes none (`looked_at`), and of those of the mutexes, with the waits that end and the owners that are
+//!   new (`wait_ended`, `with_owner`). That a run tells each of its decisions once is tested.
 //! - `stats_with` refuses a partition that no section names, and a run whose system does not boot (`known`, `unknown`,
 //!   `first`, `missing`). Nothing is written before another fault than the writer's, but in JSON where memory runs out
 //!   (`silent`).
@@ -17,7 +19,7 @@
 //!   numbers of its figures (`SendsThread`, `SendsMutex`). The tables are tested.
 //!
 //! The run goes on by single decisions where a call or a change may come, by rows of plain steps between, and over
-//! ticks at which nothing is due at once. What is gathered of threads and mutexes is tested, and so are the bytes
+//! ticks at which nothing is due at once. What is gathered over a whole run is tested, and so are the bytes
 //! (`ptk_main_tests`). Nothing is written before a fault but the writer's own and, where memory runs out while
 //! JSON is written, what is before it. Below are the count (`ptk_statistics_figures`), the system, and the faults of a
 //! run (`ptk_main_runs`); above is what the program does with a request (`ptk_main_commands`). No clause is costly to
