@@ -4,3 +4,4 @@ pub mod Gathering
 pub mod Parts
 pub mod Sent
 pub mod Answered
+pub mod Tables

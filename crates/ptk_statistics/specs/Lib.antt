@@ -5,4 +5,5 @@ pub mod Words
 pub mod Observations
 pub mod Gathering
 pub mod Document
+pub mod Tables
 pub mod Answered

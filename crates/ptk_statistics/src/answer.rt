@@ -11,6 +11,7 @@ ghost use Rattle.ptk_main_runs.specs.Told.{status_in};
 ghost use Rattle.ptk_statistics.specs.Asked.{IsAsked, is_asked};
 ghost use Rattle.ptk_statistics.specs.Answered.{IsObjectAt, PutsAsked, PutsDocument, PutsObjects, PutsRun, beginning_text, comma_before, is_place_asked};
 ghost use Rattle.ptk_statistics.specs.Document.{IsObject};
+ghost use Rattle.ptk_statistics.specs.Tables.{PutsBlocks, PutsIfCounted, PutsTables, asked_block};
 
 use crate::blocks::put_block;
 use crate::document::{Figures, json_of};
@@ -57,6 +58,8 @@ pub fn stats_with<W: Write>(
         (λ fault. fault ≢ NoPartition → first_missing files.now config.now.sections ≡ missing_in_run fault) }
     ensures json { OnOk result (form ≡ Form.Json →
         PutsRun (world_at config.now files.now ticks) partition.entry (W.contents out.old) (W.contents out.new)) }
+    ensures tables { OnOk result (form ≡ Form.Tables →
+        PutsTables (world_at config.now files.now ticks) partition.entry (W.contents out.old) (W.contents out.new)) }
     ensures silent { IfErr result (λ fault. fault ≢ RunFault.Write →
         (form ≡ Form.Json → fault ≢ RunFault.Boot BootFault.Memory) → out.new ≡ out.old) }
 {
@@ -94,6 +97,8 @@ fn put_answer<W: Write>(
         (λ fault. first_missing files.now config.now.sections ≡ missing_in_run fault) }
     ensures json { OnOk result (form ≡ Form.Json →
         PutsRun (world_at config.now files.now ticks) partition.entry (W.contents out.old) (W.contents out.new)) }
+    ensures tables { OnOk result (form ≡ Form.Tables →
+        PutsTables (world_at config.now files.now ticks) partition.entry (W.contents out.old) (W.contents out.new)) }
     ensures silent { IfErr result (λ fault. fault ≢ RunFault.Write →
         (form ≡ Form.Json → fault ≢ RunFault.Boot BootFault.Memory) → out.new ≡ out.old) }
 {
@@ -124,6 +129,8 @@ fn put<W: Write>(
     ensures memory { IfErr result (λ fault. fault ≡ PutFault.Memory → form ≡ Form.Json) }
     ensures json { OnOk result (form ≡ Form.Json →
         PutsDocument ticks system.now statistics.now.parts.items partition.entry (W.contents out.old) (W.contents out.new)) }
+    ensures tables { OnOk result (form ≡ Form.Tables →
+        PutsBlocks system.now statistics.now.parts.items partition.entry (W.contents out.old) (W.contents out.new)) }
 {
     match form {
         Form::Tables => match put_tables(system, statistics, partition, out) {
@@ -140,14 +147,32 @@ fn put_tables<'a, W: Write>(
     statistics: &'a Statistics,
     partition: Option<&str>,
     out: &mut W,
-) -> io::Result<()> {
+) -> io::Result<()>
+    ensures { OnOk result (PutsBlocks system.now statistics.now.parts.items partition.entry (W.contents out.old) (W.contents out.new)) }
+{
     let parts = statistics.parts();
-    for i in 0..system.parts().min(parts.len()) {
-        if is_asked(system.config(), i, partition) {
-            put_block(&figures_of(system, i, &parts[i]), out)?;
-        }
+    let count = system.parts().min(parts.len());
+    for i in 0..count {
+        put_asked_block(system, i, &parts[i], partition, out)?;
     }
     Ok(())
+}
+
+/// Writes the tables of the partition at a place with these figures, if it is asked for.
+fn put_asked_block<'a, W: Write>(
+    system: &'a System<'_>,
+    place: usize,
+    part: &'a PartStatistics,
+    partition: Option<&str>,
+    out: &mut W,
+) -> io::Result<()>
+    requires { place < length system.now.config.sections }
+    ensures { OnOk result (PutsIfCounted part.now.counted (asked_block system.now partition.entry place part.now) (W.contents out.old) (W.contents out.new)) }
+{
+    if !is_asked(system.config(), place, partition) {
+        return Ok(());
+    }
+    put_block(&figures_of(system, place, part), out)
 }
 
 /// Writes the JSON object of a run, with the partitions that are asked for.

@@ -16,7 +16,9 @@
 //!   order, and no other (`json`: `PutsRun`). Each has its section's name, its status, its ticks and its steps as they
 //!   were counted, and each thread's number with that thread's steps (`SendsFigures`).
 //! - Of threads, calls and mutexes it has those that there were, each with all members of the definition, which are the
-//!   numbers of its figures (`SendsThread`, `SendsMutex`). The tables are tested.
+//!   numbers of its figures (`SendsThread`, `SendsMutex`).
+//! - The tables that it writes are those of the partitions that are asked for, in ascending order, and no other
+//!   (`tables`: `PutsTables`): the names of the figures, and in the cells the figures of the same run (`block_text`).
 //!
 //! The run goes on by single decisions where a call or a change may come, by rows of plain steps between, and over
 //! ticks at which nothing is due at once. What is gathered over a whole run is tested, and so are the bytes
