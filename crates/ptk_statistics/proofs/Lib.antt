@@ -1,7 +1,3 @@
-pub mod Growing
-pub mod Sums
-pub mod Gathering
-pub mod Parts
 pub mod Sent
 pub mod Answered
 pub mod Tables

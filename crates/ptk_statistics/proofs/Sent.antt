@@ -14,7 +14,7 @@ use Rattle.ptk_statistics_figures.specs.declared.counted.Counted.{Counted}
 use Rattle.ptk_statistics_figures.specs.declared.thread.CallCount.{CallCount}
 use Rattle.ptk_statistics_figures.specs.declared.doing.Doing.{Doing}
 use Rattle.ptk_statistics_figures.specs.declared.moment.Longest.{Longest}
-use Rattle.ptk_statistics.specs.declared.part.PartStatistics.{PartStatistics}
+use Rattle.ptk_statistics_run.specs.declared.part.PartStatistics.{PartStatistics}
 use Rattle.ptk_statistics_figures.specs.declared.moment.Span.{Span}
 use Rattle.ptk_statistics_figures.specs.declared.moment.Spread.{Spread}
 use Rattle.ptk_statistics_figures.specs.declared.mutex.MutexStatistics.{MutexStatistics}

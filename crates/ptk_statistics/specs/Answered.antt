@@ -5,11 +5,11 @@ use Rattle.std.specs.Io.KnownBytes.{Appends}
 use denote.Ref.{Bor}
 use Rattle.ptk_main_runs.specs.Told.{status_in}
 use Rattle.ptk_main_runs.specs.World.{World, section_at, state_of}
-use Rattle.ptk_statistics.specs.declared.part.PartStatistics.{PartStatistics}
-use Rattle.ptk_statistics.specs.declared.statistics.Statistics.{Statistics}
+use Rattle.ptk_statistics_run.specs.declared.part.PartStatistics.{PartStatistics}
+use Rattle.ptk_statistics_run.specs.declared.statistics.Statistics.{Statistics}
 use Rattle.ptk_statistics.specs.Asked.{is_asked}
 use Rattle.ptk_statistics.specs.Document.{IsObject}
-use Rattle.ptk_statistics.specs.Parts.{AgreesWith}
+use Rattle.ptk_statistics_run.specs.Parts.{AgreesWith}
 
 -- the text is the object of the partition at a place, with its section's name, its status and its figures (own)
 abbrev pub IsObjectAt : World → List PartStatistics → ℕ → List ℕ → Type 0

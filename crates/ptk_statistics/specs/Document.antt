@@ -24,7 +24,7 @@ use Rattle.ptk_main_runs.specs.Members.{SendsAll, optional_value, value_event}
 use Rattle.ptk_main_runs.specs.PartStatus.{PartStatus}
 use Rattle.ptk_statistics.specs.declared.words.TheConstants.{KINDS}
 use Rattle.ptk_statistics.specs.Words.{word_of_doing, word_of_outcome}
-use Rattle.ptk_statistics.specs.declared.part.PartStatistics.{PartStatistics}
+use Rattle.ptk_statistics_run.specs.declared.part.PartStatistics.{PartStatistics}
 
 -- ---- members and objects
 

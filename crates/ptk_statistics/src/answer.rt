@@ -15,10 +15,9 @@ ghost use Rattle.ptk_statistics.specs.Tables.{PutsBlocks, PutsIfCounted, PutsTab
 
 use crate::blocks::put_block;
 use crate::document::{Figures, json_of};
-use crate::part::PartStatistics;
-use crate::statistics::Statistics;
 use ptk_config::Config;
 use ptk_main_runs::{BootFault, Files, PutFault, RunFault, System, part_named};
+use ptk_statistics_run::{PartStatistics, Statistics};
 use ptk_words::{PartId, Tick};
 use std::alloc::Global;
 use std::io;

@@ -6,11 +6,11 @@ ghost use Rattle.ptk_words.specs.Names.{newline};
 ghost use Rattle.ptk_statistics.specs.Tables.{PutsIfCounted, activation_rows, activations_table, block_text, call_rows, calls_rows, calls_table, cell_text, cells_text, counted_table, first_cell, longest_rows, mutex_rows, mutexes_table, name_line, number_cell, spans_rows, spans_table, stack_cell, thread_rows, threads_table, ticks_by, ticks_row, word_cell, word_of_clock};
 
 use crate::document::Figures;
-use crate::part::PartStatistics;
 use crate::words::{KINDS, doing_word, outcome_word};
 use ptk_statistics_figures::{
     CALLS, CallCount, Counted, Longest, MutexStatistics, Span, Spread, ThreadStatistics, call_name,
 };
+use ptk_statistics_run::PartStatistics;
 use ptk_words::{THREAD_LIMIT, ThreadNo};
 use std::io;
 use std::io::Write;

@@ -1,5 +1,5 @@
 use Rattle.std.proofs.Common.{List, subst}
-use Rattle.ptk_statistics.specs.declared.part.PartStatistics.{PartStatistics}
+use Rattle.ptk_statistics_run.specs.declared.part.PartStatistics.{PartStatistics}
 use Rattle.ptk_statistics.specs.Answered.{AreAsked}
 use Rattle.ptk_statistics.proofs.Answered.{document_put}
 use Rattle.ptk_statistics.proofs.answer.put_document.Goals as goal

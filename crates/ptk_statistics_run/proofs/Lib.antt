@@ -1,0 +1,4 @@
+pub mod Growing
+pub mod Sums
+pub mod Gathering
+pub mod Parts

@@ -1,0 +1,17 @@
+use Rattle.std.proofs.Common.{◌≡◌, ℕ, ◌∙◌, sym, ap, arith}
+use Rattle.ptk_main_runs.specs.World.{World, at_tick}
+use Rattle.ptk_main_runs.proofs.Keeping.{at_again}
+use Rattle.ptk_statistics_run.proofs.Parts.{kept_later}
+use Rattle.ptk_statistics_run.proofs.statistics.Statistics.decide.Goals as goal
+
+pub look-requires-2-clause-kept : goal.look-requires-2-clause-kept
+look-requires-2-clause-kept c = kept_later c.args.system.now c.run_to.new.self _ c.look.new.self.parts.items c.run_to.ensures (omega arith) c.look.ensures
+
+pub returns-clause-run : goal.returns-clause-run
+returns-clause-run c =
+    let first : c.run_to.new.self ≡ at_tick c.run_to.new.self.tick c.args.system.now =
+    c.run_to.ensures ∙ ap (λ (k : ℕ). at_tick k c.args.system.now) (sym (ap (λ (w : World). w.tick) c.run_to.ensures)) in
+    at_again c.args.system.now c.run_to.new.self c.run_to-2.new.self _ first c.run_to-2.ensures
+
+pub returns-clause-kept : goal.returns-clause-kept
+returns-clause-kept c = kept_later c.run_to.new.self c.run_to-2.new.self _ c.look-2.new.self.parts.items c.run_to-2.ensures (omega arith) c.look-2.ensures

@@ -1,0 +1,1052 @@
+//! What is seen of a partition's threads and mutexes at its decisions.
+
+ghost use Rattle.std.specs.Prelude.{◌≡◌, ◌<◌, ◌≤◌, ◌&&◌, IfOk, None, length, not};
+ghost use Rattle.ptk_words.specs.Calls.{call_of};
+ghost use Rattle.ptk_words.specs.declared.TheConstants.{LAST_TICK, SP, THREAD_LIMIT};
+ghost use Rattle.ptk_main_runs.specs.Told.{register_in};
+ghost use Rattle.ptk_main_runs.specs.World.{state_of};
+ghost use Rattle.ptk_statistics_run.specs.Observations.{comes_by, has_halted, is_apart, is_late_error, is_owner_call, is_refused, is_reply_error, is_shared, number_in, owner_call, pc_behind, replied, step_at, with_reply, with_stack};
+ghost use Rattle.ptk_statistics_run.specs.declared.observed.TheConstants.{MUTEX_LIMIT};
+ghost use Rattle.ptk_statistics_run.specs.Gathering.{AreMadeBy, AreSeen, AreWaitsSeen, IsFirst, IsSeen, at_step, at_step_end, begun, behind_row, changed, finished, is_alone, is_preempted_behind, last_behind, looked_at, owned_until, running_from, seen, seen_apart, step_end, step_over, step_ticks, stepped_in, thread_of, threads_behind_row, wait_ended, waiting_for, waits_apart, waits_looked_at, waits_of_last, waits_seen, window_end, with_all_waits, with_call_made, with_last, with_mutex, with_outcome, with_owner, with_owner_behind, with_preemption, with_quiet_call, with_reply_at_wake, with_thread, with_wait};
+ghost use Rattle.ptk_main_runs.specs.Activities.{activity_in, owner_thread};
+ghost use Rattle.ptk_statistics_figures.specs.Mutexes.{waited_from};
+ghost use Rattle.ptk_statistics_figures.specs.Times.{time_between};
+
+use crate::doing::{doing_of, has_halted, is_preemption, is_ready, is_running, is_timed};
+use ptk_main_runs::{Activity, System};
+use ptk_statistics_figures::{
+    Doing, Moment, MutexStatistics, Pending, ThreadStatistics, free_mutexes, free_numbers,
+};
+use ptk_words::{
+    A0, A7, Call, ECALL, Entry, MutexNo, PartId, SP, THREAD_LIMIT, ThreadNo, Tick, cost,
+};
+use std::alloc::{AllocError, Global};
+
+/// How many mutexes a partition has at most.
+const MUTEX_LIMIT: usize = 64;
+
+/// Bytes of an instruction.
+pub(crate) const WORD: u32 = 4;
+
+/// The word of a step that fetched none.
+pub(crate) const NO_WORD: u32 = 0;
+
+/// A call that can give a mutex another owner.
+#[derive(Clone, Copy)]
+pub(crate) struct OwnerCall {
+    /// The tick at which it began.
+    pub(crate) tick: u64,
+    /// How many ticks it took.
+    pub(crate) cost: u64,
+}
+
+/// The figures of a partition's threads and mutexes, by number.
+#[derive(Drop)]
+pub struct Observed {
+    threads: Vec<ThreadStatistics>,
+    mutexes: Vec<MutexStatistics>,
+    // the thread of the last step that was looked at, and whether something comes from outside with the next one
+    last: Option<ThreadNo>,
+    is_disturbed: bool,
+}
+
+impl Observed {
+    /// The figures before the first tick, with room for this many threads and mutexes. An error where memory ran out.
+    /// No other call takes memory.
+    pub(crate) fn new(
+        alloc: Global,
+        system: &System<'_>,
+        p: PartId,
+        threads: u32,
+        mutexes: u32,
+    ) -> Result<Observed, AllocError>
+        requires { p < length system.now.config.sections }
+        ensures { IfOk result (IsFirst (state_of system.now p).part threads mutexes) }
+    {
+        let mut threads = free_numbers(alloc, threads.min(THREAD_LIMIT) as usize)?;
+        begin(threads.as_mut_slice(), system, p);
+        let mutexes = free_mutexes(alloc, (mutexes as usize).min(MUTEX_LIMIT))?;
+        Ok(Observed {
+            threads,
+            mutexes,
+            last: None,
+            is_disturbed: true,
+        })
+    }
+
+    /// The threads, by number from 1.
+    pub fn threads(&self) -> &[ThreadStatistics]
+        ensures { result.now ≡ self.now.threads.items }
+    {
+        self.threads.as_slice()
+    }
+
+    /// The mutexes, by number from 1.
+    pub fn mutexes(&self) -> &[MutexStatistics]
+        ensures { result.now ≡ self.now.mutexes.items }
+    {
+        self.mutexes.as_slice()
+    }
+
+    /// The partition's decision at a moment was made, in a run up to a tick.
+    pub(crate) fn look(&mut self, system: &System<'_>, p: PartId, at: Moment, to: u64)
+        requires partition { p < length system.now.config.sections }
+        requires early { at.tick ≤ LAST_TICK }
+        ensures { IsSeen ⟦<Doing as PartialEq>⟧.eq system.now p at to self.old self.new }
+    {
+        let step = step_at(system, p, at.tick);
+        self.look_behind(system, p, &step, at, to);
+        self.last = last_behind(&step, self.last);
+    }
+
+    /// The partition's decision at a moment was made, which began this step, in a run up to a tick.
+    fn look_behind(
+        &mut self,
+        system: &System<'_>,
+        p: PartId,
+        step: &Option<Entry>,
+        at: Moment,
+        to: u64,
+    )
+        requires partition { p < length system.now.config.sections }
+        requires early { at.tick ≤ LAST_TICK }
+        ensures threads { AreSeen ⟦<Doing as PartialEq>⟧.eq system.now p self.old.is_disturbed self.old.last step.now at to self.old.threads.items self.new.threads.items }
+        ensures mutexes { AreWaitsSeen ⟦<Doing as PartialEq>⟧.eq (state_of system.now p).part self.old.is_disturbed self.old.last step.now at
+            self.old.threads.items self.old.mutexes.items self.new.mutexes.items }
+        ensures others { self.new ≡ record self.old { threads = self.new.threads; mutexes = self.new.mutexes } }
+    {
+        match step {
+            None => self.look_at_all(system, p, step, at, to),
+            Some(entry) if self.is_alone(system, p, entry) => {
+                self.look_at_step(system, p, entry, at, to);
+            }
+            Some(_) => self.look_at_all(system, p, step, at, to),
+        }
+    }
+
+    /// Whether only the threads of this step and of the last one before are looked at.
+    fn is_alone(&self, system: &System<'_>, p: PartId, entry: &Entry) -> bool
+        requires { p < length system.now.config.sections }
+        ensures { result ≡ is_alone self.now.is_disturbed entry.now (state_of system.now p).part }
+    {
+        !self.is_disturbed && is_apart(system, p, entry)
+    }
+
+    /// Whether input arrives or a deadline expires with the partition's decision at the system's tick.
+    pub(crate) fn look_ahead(&mut self, system: &System<'_>, p: PartId)
+        requires { p < length system.now.config.sections }
+        ensures { self.new ≡ record self.old { is_disturbed = self.new.is_disturbed } }
+    {
+        self.is_disturbed = is_disturbed(system, p);
+    }
+
+    /// Looks at the thread that made this step, and at the one that made the last step before.
+    fn look_at_step(&mut self, system: &System<'_>, p: PartId, entry: &Entry, at: Moment, to: u64)
+        requires partition { p < length system.now.config.sections }
+        requires early { at.tick ≤ LAST_TICK }
+        ensures threads { self.new.threads.items ≡ seen_apart ⟦<Doing as PartialEq>⟧.eq system.now p self.old.last entry.now at to self.old.threads.items }
+        ensures mutexes { AreMadeBy (with_owner_behind entry.now (state_of system.now p).part at) MUTEX_LIMIT
+            (waits_apart ⟦<Doing as PartialEq>⟧.eq (state_of system.now p).part self.old.last entry.now at self.old.threads.items self.old.mutexes.items)
+            self.new.mutexes.items }
+        ensures others { self.new ≡ record self.old { threads = self.new.threads; mutexes = self.new.mutexes } }
+    {
+        look_apart(
+            self.threads.as_mut_slice(),
+            self.mutexes.as_mut_slice(),
+            system,
+            p,
+            &self.last,
+            entry,
+            at,
+            to,
+        );
+    }
+
+    /// Looks at all threads and mutexes.
+    fn look_at_all(
+        &mut self,
+        system: &System<'_>,
+        p: PartId,
+        step: &Option<Entry>,
+        at: Moment,
+        to: u64,
+    )
+        requires partition { p < length system.now.config.sections }
+        requires early { at.tick ≤ LAST_TICK }
+        ensures threads { AreMadeBy (seen ⟦<Doing as PartialEq>⟧.eq system.now p step.now at to) THREAD_LIMIT self.old.threads.items self.new.threads.items }
+        ensures mutexes { AreMadeBy (λ m. with_owner (owner_thread (state_of system.now p).part.locks m) at) MUTEX_LIMIT
+            (with_all_waits (waits_seen ⟦<Doing as PartialEq>⟧.eq (state_of system.now p).part step.now at) self.old.threads.items self.old.mutexes.items)
+            self.new.mutexes.items }
+        ensures others { self.new ≡ record self.old { threads = self.new.threads; mutexes = self.new.mutexes } }
+    {
+        look_over(
+            self.threads.as_mut_slice(),
+            self.mutexes.as_mut_slice(),
+            system,
+            p,
+            step,
+            at,
+            to,
+        );
+    }
+
+    /// The partition's running thread made plain steps, and maybe a quiet call behind them. No other thread did
+    /// anything. Returns the call, where it can give a mutex another owner: its tick and its cost.
+    #[inline(always)]
+    pub(crate) fn look_at_row(&mut self, system: &System<'_>, p: PartId) -> Option<OwnerCall>
+        requires { p < length system.now.config.sections }
+        ensures threads { self.new.threads.items ≡ threads_behind_row (state_of system.now p).part.last (state_of system.now p).part self.old.threads.items }
+        ensures others { self.new ≡ record self.old { threads = self.new.threads; last = self.new.last } }
+    {
+        let entry = system.last_step(p)?;
+        let place = entry.thread.place();
+        if self.threads.len() <= place {
+            return None;
+        }
+        self.last = Some(entry.thread);
+        let call = call_of(system, p, &entry);
+        see_row(&mut self.threads[place], system, p, &entry, &call);
+        owner_call(&entry, call?)
+    }
+
+    /// Who owns each mutex, from a moment on.
+    pub(crate) fn look_at_owners(&mut self, system: &System<'_>, p: PartId, at: Moment)
+        requires { p < length system.now.config.sections }
+        ensures mutexes { AreMadeBy (λ m. with_owner (owner_thread (state_of system.now p).part.locks m) at) MUTEX_LIMIT self.old.mutexes.items self.new.mutexes.items }
+        ensures others { self.new ≡ record self.old { mutexes = self.new.mutexes } }
+    {
+        look_at_owners(self.mutexes.as_mut_slice(), system, p, at);
+    }
+
+    /// The run ends at a moment.
+    pub(crate) fn finish(&mut self, at: Moment)
+        ensures threads { AreMadeBy (λ t. finished at) THREAD_LIMIT self.old.threads.items self.new.threads.items }
+        ensures mutexes { let waited = with_all_waits (λ t. wait_ended t at) self.old.threads.items self.old.mutexes.items in
+            AreMadeBy (λ m. owned_until at) (length waited) waited self.new.mutexes.items }
+        ensures others { self.new ≡ record self.old { threads = self.new.threads; mutexes = self.new.mutexes } }
+    {
+        finish_all(self.threads.as_mut_slice(), self.mutexes.as_mut_slice(), at);
+    }
+}
+
+/// Looks at the thread that made this step, and at the one that made the last step before; behind a call at the owners
+/// of the mutexes too.
+fn look_apart(
+    threads: &mut [ThreadStatistics],
+    mutexes: &mut [MutexStatistics],
+    system: &System<'_>,
+    p: PartId,
+    last: &Option<ThreadNo>,
+    entry: &Entry,
+    at: Moment,
+    to: u64,
+)
+    requires partition { p < length system.now.config.sections }
+    requires early { at.tick ≤ LAST_TICK }
+    ensures threads { threads.new ≡ seen_apart ⟦<Doing as PartialEq>⟧.eq system.now p last.now entry.now at to threads.old }
+    ensures mutexes { AreMadeBy (with_owner_behind entry.now (state_of system.now p).part at) MUTEX_LIMIT
+        (waits_apart ⟦<Doing as PartialEq>⟧.eq (state_of system.now p).part last.now entry.now at threads.old mutexes.old) mutexes.new }
+{
+    look_at_last(threads, mutexes, system, p, last, entry.thread, at);
+    make_step_of(threads, mutexes, system, p, entry, at, to);
+    look_at_owners_behind(mutexes, system, p, entry, at);
+}
+
+/// Looks at the thread that made the last step, where it is another than this one.
+fn look_at_last(
+    threads: &mut [ThreadStatistics],
+    mutexes: &mut [MutexStatistics],
+    system: &System<'_>,
+    p: PartId,
+    last: &Option<ThreadNo>,
+    t: ThreadNo,
+    at: Moment,
+)
+    requires { p < length system.now.config.sections }
+    ensures threads { threads.new ≡ with_last ⟦<Doing as PartialEq>⟧.eq (state_of system.now p).part last.now t at threads.old }
+    ensures mutexes { mutexes.new ≡ waits_of_last ⟦<Doing as PartialEq>⟧.eq (state_of system.now p).part last.now t at threads.old mutexes.old }
+{
+    match last {
+        None => {}
+        Some(last) if last.number() == t.number() => {}
+        Some(last) => turn_of(threads, mutexes, system, p, *last, at),
+    }
+}
+
+/// Looks at the thread of a number, which made no step, where there is such a number.
+fn turn_of(
+    threads: &mut [ThreadStatistics],
+    mutexes: &mut [MutexStatistics],
+    system: &System<'_>,
+    p: PartId,
+    t: ThreadNo,
+    at: Moment,
+)
+    requires { p < length system.now.config.sections }
+    ensures threads { threads.new ≡ with_thread t (looked_at ⟦<Doing as PartialEq>⟧.eq (state_of system.now p).part at t) threads.old }
+    ensures mutexes { mutexes.new ≡ waits_looked_at ⟦<Doing as PartialEq>⟧.eq (state_of system.now p).part at t (thread_of t threads.old) mutexes.old }
+{
+    let place = t.place();
+    if threads.len() <= place {
+        return;
+    }
+    turn(&mut threads[place], mutexes, system, p, t, at);
+}
+
+/// Looks at the thread of a step, where there is such a number.
+fn make_step_of(
+    threads: &mut [ThreadStatistics],
+    mutexes: &mut [MutexStatistics],
+    system: &System<'_>,
+    p: PartId,
+    entry: &Entry,
+    at: Moment,
+    to: u64,
+)
+    requires partition { p < length system.now.config.sections }
+    requires early { at.tick ≤ LAST_TICK }
+    ensures threads { threads.new ≡ with_thread entry.now.thread (stepped_in system.now p entry.now at to) threads.old }
+    ensures mutexes { mutexes.new ≡ wait_ended entry.now.thread at (thread_of entry.now.thread threads.old) mutexes.old }
+{
+    let place = entry.thread.place();
+    if threads.len() <= place {
+        return;
+    }
+    make_step(&mut threads[place], mutexes, system, p, entry, at, to);
+}
+
+/// Who owns each mutex behind a step, from a moment on: another than before only behind a call.
+fn look_at_owners_behind(
+    mutexes: &mut [MutexStatistics],
+    system: &System<'_>,
+    p: PartId,
+    entry: &Entry,
+    at: Moment,
+)
+    requires { p < length system.now.config.sections }
+    ensures { AreMadeBy (with_owner_behind entry.now (state_of system.now p).part at) MUTEX_LIMIT mutexes.old mutexes.new }
+{
+    if entry.word == ECALL {
+        look_at_owners(mutexes, system, p, at);
+    }
+}
+
+/// Looks at all threads and mutexes.
+fn look_over(
+    threads: &mut [ThreadStatistics],
+    mutexes: &mut [MutexStatistics],
+    system: &System<'_>,
+    p: PartId,
+    step: &Option<Entry>,
+    at: Moment,
+    to: u64,
+)
+    requires partition { p < length system.now.config.sections }
+    requires early { at.tick ≤ LAST_TICK }
+    ensures threads { AreMadeBy (seen ⟦<Doing as PartialEq>⟧.eq system.now p step.now at to) THREAD_LIMIT threads.old threads.new }
+    ensures mutexes { AreMadeBy (λ m. with_owner (owner_thread (state_of system.now p).part.locks m) at) MUTEX_LIMIT
+        (with_all_waits (waits_seen ⟦<Doing as PartialEq>⟧.eq (state_of system.now p).part step.now at) threads.old mutexes.old) mutexes.new }
+{
+    look_at_threads(threads, mutexes, system, p, step, at, to);
+    look_at_owners(mutexes, system, p, at);
+}
+
+/// What each thread does after the decision at a moment, which began this step.
+fn look_at_threads(
+    threads: &mut [ThreadStatistics],
+    mutexes: &mut [MutexStatistics],
+    system: &System<'_>,
+    p: PartId,
+    step: &Option<Entry>,
+    at: Moment,
+    to: u64,
+)
+    requires partition { p < length system.now.config.sections }
+    requires early { at.tick ≤ LAST_TICK }
+    ensures threads { AreMadeBy (seen ⟦<Doing as PartialEq>⟧.eq system.now p step.now at to) THREAD_LIMIT threads.old threads.new }
+    ensures mutexes { mutexes.new ≡ with_all_waits (waits_seen ⟦<Doing as PartialEq>⟧.eq (state_of system.now p).part step.now at) threads.old mutexes.old }
+{
+    for i in 0..threads.len().min(THREAD_LIMIT as usize) {
+        let t = ThreadNo::new(i as u8 + 1);
+        look_at_thread(&mut threads[i], mutexes, system, p, t, step, at, to);
+    }
+}
+
+/// What a thread does after the decision at a moment, which began this step.
+fn look_at_thread(
+    thread: &mut ThreadStatistics,
+    mutexes: &mut [MutexStatistics],
+    system: &System<'_>,
+    p: PartId,
+    t: ThreadNo,
+    step: &Option<Entry>,
+    at: Moment,
+    to: u64,
+)
+    requires partition { p < length system.now.config.sections }
+    requires early { at.tick ≤ LAST_TICK }
+    ensures thread { thread.new ≡ seen ⟦<Doing as PartialEq>⟧.eq system.now p step.now at to t thread.old }
+    ensures mutexes { mutexes.new ≡ waits_seen ⟦<Doing as PartialEq>⟧.eq (state_of system.now p).part step.now at t thread.old mutexes.old }
+{
+    match step {
+        None => turn(thread, mutexes, system, p, t, at),
+        Some(entry) if entry.thread.number() == t.number() => {
+            make_step(thread, mutexes, system, p, entry, at, to);
+        }
+        Some(_) => turn(thread, mutexes, system, p, t, at),
+    }
+}
+
+/// The run ends at a moment.
+fn finish_all(threads: &mut [ThreadStatistics], mutexes: &mut [MutexStatistics], at: Moment)
+    ensures threads { AreMadeBy (λ t. finished at) THREAD_LIMIT threads.old threads.new }
+    ensures mutexes { let waited = with_all_waits (λ t. wait_ended t at) threads.old mutexes.old in
+        AreMadeBy (λ m. owned_until at) (length waited) waited mutexes.new }
+{
+    finish_threads(threads, mutexes, at);
+    finish_mutexes(mutexes, at);
+}
+
+/// The run ends at a moment.
+fn finish_threads(threads: &mut [ThreadStatistics], mutexes: &mut [MutexStatistics], at: Moment)
+    ensures threads { AreMadeBy (λ t. finished at) THREAD_LIMIT threads.old threads.new }
+    ensures mutexes { mutexes.new ≡ with_all_waits (λ t. wait_ended t at) threads.old mutexes.old }
+{
+    for i in 0..threads.len().min(THREAD_LIMIT as usize) {
+        finish_thread(&mut threads[i], mutexes, ThreadNo::new(i as u8 + 1), at);
+    }
+}
+
+/// The run ends at a moment, and with it what a thread does.
+fn finish_thread(
+    thread: &mut ThreadStatistics,
+    mutexes: &mut [MutexStatistics],
+    t: ThreadNo,
+    at: Moment,
+)
+    ensures thread { thread.new ≡ finished at thread.old }
+    ensures mutexes { mutexes.new ≡ wait_ended t at thread.old mutexes.old }
+{
+    end_wait(thread, mutexes, t, at);
+    thread.finish(at);
+}
+
+/// The run ends at a moment, and with it the time for which each mutex is owned.
+fn finish_mutexes(mutexes: &mut [MutexStatistics], at: Moment)
+    ensures { AreMadeBy (λ m. owned_until at) (length mutexes.old) mutexes.old mutexes.new }
+{
+    for i in 0..mutexes.len() {
+        finish_mutex(&mut mutexes[i], at);
+    }
+}
+
+/// The run ends at a moment, and with it the time for which a mutex is owned.
+fn finish_mutex(mutex: &mut MutexStatistics, at: Moment)
+    ensures { mutex.new ≡ owned_until at mutex.old }
+{
+    let owner = mutex.owner();
+    mutex.own_by(owner, at);
+}
+
+/// A thread that made no step with the decision at a moment: it does what it did, or something else from then on.
+fn turn(
+    thread: &mut ThreadStatistics,
+    mutexes: &mut [MutexStatistics],
+    system: &System<'_>,
+    p: PartId,
+    t: ThreadNo,
+    at: Moment,
+)
+    requires { p < length system.now.config.sections }
+    ensures thread { thread.new ≡ looked_at ⟦<Doing as PartialEq>⟧.eq (state_of system.now p).part at t thread.old }
+    ensures mutexes { mutexes.new ≡ waits_looked_at ⟦<Doing as PartialEq>⟧.eq (state_of system.now p).part at t thread.old mutexes.old }
+{
+    let activity = system.activity(p, t);
+    let doing = doing_of(&activity);
+    if thread.doing() == doing {
+        return;
+    }
+    change(thread, mutexes, system, p, t, &activity, at);
+}
+
+/// A thread that made no step with the decision at a moment does something else from then on.
+fn change(
+    thread: &mut ThreadStatistics,
+    mutexes: &mut [MutexStatistics],
+    system: &System<'_>,
+    p: PartId,
+    t: ThreadNo,
+    activity: &Activity,
+    at: Moment,
+)
+    requires { p < length system.now.config.sections }
+    ensures thread { thread.new ≡ changed activity.now t (state_of system.now p).part at thread.old }
+    ensures mutexes { mutexes.new ≡ wait_ended t at thread.old mutexes.old }
+{
+    let doing = doing_of(activity);
+    let is_preempted = is_preemption(thread.doing(), doing);
+    end_wait(thread, mutexes, t, at);
+    take_reply_at_wake(thread, system, p, t, doing);
+    preempt_if(thread, is_preempted);
+    thread.turn_to(doing, at);
+    thread.wait_for(activity.mutex());
+}
+
+/// A thread is preempted, where it was.
+fn preempt_if(thread: &mut ThreadStatistics, is_preempted: bool)
+    ensures { thread.new ≡ with_preemption is_preempted thread.old }
+{
+    if is_preempted {
+        thread.preempt();
+    }
+}
+
+/// The thread of the step that the decision at a moment began runs for the ticks of the step, in a run up to a tick,
+/// and then does what the system shows of it.
+fn make_step(
+    thread: &mut ThreadStatistics,
+    mutexes: &mut [MutexStatistics],
+    system: &System<'_>,
+    p: PartId,
+    entry: &Entry,
+    at: Moment,
+    to: u64,
+)
+    requires partition { p < length system.now.config.sections }
+    requires early { at.tick ≤ LAST_TICK }
+    ensures thread { thread.new ≡ stepped_in system.now p entry.now at to thread.old }
+    ensures mutexes { mutexes.new ≡ wait_ended entry.now.thread at thread.old mutexes.old }
+{
+    let activity = system.activity(p, entry.thread);
+    let call = call_of(system, p, entry);
+    end_wait(thread, mutexes, entry.thread, at);
+    begin_step(thread, entry, at);
+    make_call(thread, system, p, entry, &call, doing_of(&activity));
+    look_at_stack(thread, system, p, entry.thread);
+    end_step(thread, system, p, &activity, &call, at, to);
+}
+
+/// A thread runs from the moment on at which its step begins, and the reply to its call is there, if it awaited one.
+fn begin_step(thread: &mut ThreadStatistics, entry: &Entry, at: Moment)
+    ensures { thread.new ≡ at_step entry.now at thread.old }
+{
+    let doing = thread.doing();
+    take_late_reply(thread, entry);
+    run_from(thread, doing, at);
+}
+
+/// A thread that did this before runs from a moment on.
+fn run_from(thread: &mut ThreadStatistics, doing: Doing, at: Moment)
+    ensures { thread.new ≡ running_from doing at thread.old }
+{
+    if !is_running(doing) {
+        thread.turn_to(Doing::Running, at);
+    }
+}
+
+/// The thread's step is a call of this number, if it is one, and it then does this.
+fn make_call(
+    thread: &mut ThreadStatistics,
+    system: &System<'_>,
+    p: PartId,
+    entry: &Entry,
+    call: &Option<u32>,
+    doing: Doing,
+)
+    requires { p < length system.now.config.sections }
+    ensures { thread.new ≡ with_call_made entry.now (state_of system.now p).part doing call.now thread.old }
+{
+    if let Some(number) = call {
+        thread.call(*number);
+        end_made_call(thread, system, p, entry, *number, doing);
+    }
+}
+
+/// The reply to the call of this number that the thread's step is: none yet where it blocks, else an error or none.
+fn end_made_call(
+    thread: &mut ThreadStatistics,
+    system: &System<'_>,
+    p: PartId,
+    entry: &Entry,
+    number: u32,
+    doing: Doing,
+)
+    requires { p < length system.now.config.sections }
+    ensures { thread.new ≡ with_outcome entry.now (state_of system.now p).part doing number thread.old }
+{
+    if doing.is_blocked() {
+        let pc = pc_behind(entry);
+        thread.await_reply(Some(Pending { number, pc }));
+        return;
+    }
+    if is_refused_behind(system, p, entry, doing) {
+        thread.refuse(number);
+    }
+}
+
+/// Whether the reply to the call that a step is, where it is one, is an error to a thread that does this then.
+fn is_refused_behind(system: &System<'_>, p: PartId, entry: &Entry, doing: Doing) -> bool
+    requires { p < length system.now.config.sections }
+    ensures { result ≡ not (has_halted doing) && is_refused entry.now (state_of system.now p).part }
+{
+    !has_halted(doing) && is_refused(system, p, entry)
+}
+
+/// Where its step ends that began at a moment, in a run up to a tick, a thread runs on, or does something else.
+fn end_step(
+    thread: &mut ThreadStatistics,
+    system: &System<'_>,
+    p: PartId,
+    activity: &Activity,
+    call: &Option<u32>,
+    at: Moment,
+    to: u64,
+)
+    requires partition { p < length system.now.config.sections }
+    requires early { at.tick ≤ LAST_TICK }
+    ensures { thread.new ≡ at_step_end activity.now call.now (step_over system.now p at to) thread.old }
+{
+    let doing = doing_of(activity);
+    if is_running(doing) {
+        return;
+    }
+    let end = at.after(step_ticks(system, p, at.tick, to));
+    preempt_if(thread, is_preempted_behind(call, doing));
+    thread.turn_to(doing, end);
+    thread.wait_for(activity.mutex());
+}
+
+/// Whether a thread that does this behind its step, which is the call of a number if it is one, is preempted.
+fn is_preempted_behind(call: &Option<u32>, doing: Doing) -> bool
+    ensures { result ≡ is_preempted_behind call.now doing }
+{
+    is_ready(doing) && *call != Some(Call::SchedYield.number())
+}
+
+/// A thread made plain steps, and maybe a quiet call behind them: its stack pointer and that call. This is the last
+/// step, which is a call of a number or none.
+#[inline(always)]
+fn see_row(
+    thread: &mut ThreadStatistics,
+    system: &System<'_>,
+    p: PartId,
+    entry: &Entry,
+    call: &Option<u32>,
+)
+    requires { p < length system.now.config.sections }
+    ensures { thread.new ≡ behind_row entry.now (state_of system.now p).part call.now thread.old }
+{
+    look_at_stack(thread, system, p, entry.thread);
+    if let Some(number) = call {
+        see_quiet_call(thread, system, p, entry, *number);
+    }
+}
+
+/// A thread's last step was the quiet call of this number.
+#[inline(always)]
+fn see_quiet_call(
+    thread: &mut ThreadStatistics,
+    system: &System<'_>,
+    p: PartId,
+    entry: &Entry,
+    number: u32,
+)
+    requires { p < length system.now.config.sections }
+    ensures { thread.new ≡ with_quiet_call entry.now (state_of system.now p).part number thread.old }
+{
+    thread.call(number);
+    if is_refused(system, p, entry) {
+        thread.refuse(number);
+    }
+}
+
+/// The pc behind a step that is a call.
+fn pc_behind(entry: &Entry) -> u32
+    ensures { result ≡ pc_behind entry.now }
+{
+    entry.pc.wrapping_add(WORD)
+}
+
+/// Whether the reply to the call that a step is, where it is one, is an error, and its thread goes on behind it.
+#[inline(always)]
+fn is_refused(system: &System<'_>, p: PartId, entry: &Entry) -> bool
+    requires { p < length system.now.config.sections }
+    ensures { result ≡ is_refused entry.now (state_of system.now p).part }
+{
+    entry.a0 != 0 && system.pc(p, entry.thread) == Some(pc_behind(entry))
+}
+
+/// The reply that a woken thread got to the call with which it blocked, if it got one.
+fn take_reply(thread: &mut ThreadStatistics, system: &System<'_>, p: PartId, t: ThreadNo)
+    requires { p < length system.now.config.sections }
+    ensures { thread.new ≡ with_reply (is_reply_error t (state_of system.now p).part) thread.old.pending thread.old }
+{
+    if let Some(pending) = thread.pending() {
+        let is_error = is_reply_error(system, p, t, pending.pc);
+        end_call(thread, pending.number, is_error);
+    }
+}
+
+/// The reply that a thread got to the call with which it blocked, where it does this now and so is blocked no more.
+fn take_reply_at_wake(
+    thread: &mut ThreadStatistics,
+    system: &System<'_>,
+    p: PartId,
+    t: ThreadNo,
+    doing: Doing,
+)
+    requires { p < length system.now.config.sections }
+    ensures { thread.new ≡ with_reply_at_wake doing t (state_of system.now p).part thread.old }
+{
+    if !doing.is_blocked() {
+        take_reply(thread, system, p, t);
+    }
+}
+
+/// Whether a thread goes on at this pc, and its reply is an error.
+fn is_reply_error(system: &System<'_>, p: PartId, t: ThreadNo, pc: u32) -> bool
+    requires { p < length system.now.config.sections }
+    ensures { result ≡ is_reply_error t (state_of system.now p).part pc }
+{
+    system.pc(p, t) == Some(pc) && system.register(p, t, A0).unwrap_or(0) != 0
+}
+
+/// The reply to the call with which a thread blocked, where the decision that woke it makes a step of it too: an error
+/// where it waited for a mutex or on a condition variable, since its deadline ended that wait.
+fn take_late_reply(thread: &mut ThreadStatistics, entry: &Entry)
+    ensures { thread.new ≡ with_reply (is_late_error entry.now thread.old.doing) thread.old.pending thread.old }
+{
+    if let Some(pending) = thread.pending() {
+        let is_error = is_late_error(entry, thread.doing(), pending.pc);
+        end_call(thread, pending.number, is_error);
+    }
+}
+
+/// Whether a step is at this pc, and a deadline ended the wait of its thread, which did this.
+fn is_late_error(entry: &Entry, doing: Doing, pc: u32) -> bool
+    ensures { result ≡ is_late_error entry.now doing pc }
+{
+    entry.pc == pc && is_timed(doing)
+}
+
+/// No reply to the call of this number is awaited any more.
+fn end_call(thread: &mut ThreadStatistics, number: u32, is_error: bool)
+    ensures { thread.new ≡ replied number is_error thread.old }
+{
+    thread.await_reply(None);
+    if is_error {
+        thread.refuse(number);
+    }
+}
+
+/// The wait of a thread for a mutex ends, if it waits for one.
+fn end_wait(thread: &mut ThreadStatistics, mutexes: &mut [MutexStatistics], t: ThreadNo, at: Moment)
+    ensures thread { thread.new ≡ waiting_for None thread.old }
+    ensures mutexes { mutexes.new ≡ wait_ended t at thread.old mutexes.old }
+{
+    let since = thread.since_moment();
+    let mutex = thread.mutex();
+    count_wait(mutexes, &mutex, t, since, at);
+    thread.wait_for(None);
+}
+
+/// A thread waited for a mutex from a moment to another, if it waited for one.
+fn count_wait(
+    mutexes: &mut [MutexStatistics],
+    mutex: &Option<MutexNo>,
+    t: ThreadNo,
+    from: Moment,
+    to: Moment,
+)
+    ensures { mutexes.new ≡ with_wait mutex.now t from to mutexes.old }
+{
+    if let Some(m) = mutex {
+        add_wait(mutexes, *m, t, from, to);
+    }
+}
+
+/// A thread waited for a mutex from a moment to another.
+fn add_wait(mutexes: &mut [MutexStatistics], m: MutexNo, t: ThreadNo, from: Moment, to: Moment)
+    ensures { mutexes.new ≡ with_mutex m (waited_from (time_between from to) t from) mutexes.old }
+{
+    let place = m.place();
+    if mutexes.len() <= place {
+        return;
+    }
+    mutexes[place].wait(to.since(from), t, from);
+}
+
+/// A thread has this stack pointer.
+fn look_at_stack(thread: &mut ThreadStatistics, system: &System<'_>, p: PartId, t: ThreadNo)
+    requires { p < length system.now.config.sections }
+    ensures { thread.new ≡ with_stack (register_in t SP (state_of system.now p).part) thread.old }
+{
+    if let Some(pointer) = system.register(p, t, SP) {
+        thread.see_stack(pointer);
+    }
+}
+
+/// Who owns each mutex, from a moment on.
+fn look_at_owners(mutexes: &mut [MutexStatistics], system: &System<'_>, p: PartId, at: Moment)
+    requires { p < length system.now.config.sections }
+    ensures { AreMadeBy (λ m. with_owner (owner_thread (state_of system.now p).part.locks m) at) MUTEX_LIMIT mutexes.old mutexes.new }
+{
+    for i in 0..mutexes.len().min(MUTEX_LIMIT) {
+        let owner = system.owner_thread(p, MutexNo::new(i as u8 + 1));
+        look_at_owner(&mut mutexes[i], &owner, at);
+    }
+}
+
+/// A mutex has this owner at a moment: it had it before, or has it from then on.
+fn look_at_owner(mutex: &mut MutexStatistics, owner: &Option<ThreadNo>, at: Moment)
+    ensures { mutex.new ≡ with_owner owner.now at mutex.old }
+{
+    if mutex.owner() == *owner {
+        return;
+    }
+    mutex.own_by(*owner, at);
+}
+
+/// What the threads do before the first tick.
+fn begin(threads: &mut [ThreadStatistics], system: &System<'_>, p: PartId)
+    requires { p < length system.now.config.sections }
+    ensures { AreMadeBy (λ t. begun (activity_in t (state_of system.now p).part)) THREAD_LIMIT threads.old threads.new }
+{
+    for i in 0..threads.len().min(THREAD_LIMIT as usize) {
+        let activity = system.activity(p, ThreadNo::new(i as u8 + 1));
+        begin_with(&mut threads[i], &activity);
+    }
+}
+
+/// What a thread does before the first tick.
+fn begin_with(thread: &mut ThreadStatistics, activity: &Activity)
+    ensures { thread.new ≡ begun activity.now thread.old }
+{
+    thread.begin(doing_of(activity));
+}
+
+/// The thread of the last step that was looked at, where this one was now, if there is one.
+fn last_behind(step: &Option<Entry>, last: Option<ThreadNo>) -> Option<ThreadNo>
+    ensures { result ≡ last_behind step.now last }
+{
+    match step {
+        Some(entry) => Some(entry.thread),
+        None => last,
+    }
+}
+
+/// The step that began at the tick, if one did.
+fn step_at(system: &System<'_>, p: PartId, tick: u64) -> Option<Entry>
+    requires { p < length system.now.config.sections }
+    ensures { result ≡ step_at tick (state_of system.now p).part }
+{
+    let entry = system.last_step(p)?;
+    if entry.tick.ticks() == tick {
+        Some(entry)
+    } else {
+        None
+    }
+}
+
+/// The number of the call that a step is, None of a step that is no call. A thread that ended with its call made
+/// pthread_exit.
+fn call_of(system: &System<'_>, p: PartId, entry: &Entry) -> Option<u32>
+    requires { p < length system.now.config.sections }
+    ensures { result ≡ number_in entry.now (state_of system.now p).part }
+{
+    if entry.word != ECALL {
+        return None;
+    }
+    let number = system.register(p, entry.thread, A7);
+    Some(number.unwrap_or(Call::PthreadExit.number()))
+}
+
+/// Whether input arrives or a deadline expires with the partition's decision at the system's tick.
+fn is_disturbed(system: &System<'_>, p: PartId) -> bool
+    requires { p < length system.now.config.sections }
+{
+    let now = system.tick();
+    let tables = system.tables();
+    comes_by(tables.next_deadline(p), now) || comes_by(tables.next_arrival_tick(p), now)
+}
+
+/// Whether a tick, where there is one, is this one or before it.
+fn comes_by(tick: Option<Tick>, now: Tick) -> bool
+    ensures { result ≡ comes_by now tick }
+{
+    match tick {
+        Some(tick) => tick.ticks() <= now.ticks(),
+        None => false,
+    }
+}
+
+/// Whether a step can change what no other thread does but the one that ran before: an instruction of a partition that
+/// goes on, no call that wakes, makes, ends or frees a thread, and no step of a thread's end.
+fn is_apart(system: &System<'_>, p: PartId, entry: &Entry) -> bool
+    requires { p < length system.now.config.sections }
+    ensures { result ≡ is_apart entry.now (state_of system.now p).part }
+{
+    if system.status(p).is_halted() {
+        return false;
+    }
+    match call_of(system, p, entry) {
+        Some(number) => !is_shared(Call::of_number(number)),
+        None => entry.word != NO_WORD,
+    }
+}
+
+/// Whether a call wakes, makes, ends or frees a thread, or halts the partition.
+fn is_shared(call: Option<Call>) -> bool
+    ensures { result ≡ is_shared call }
+{
+    match call {
+        Some(
+            Call::Exit
+            | Call::PthreadCreate
+            | Call::PthreadExit
+            | Call::PthreadJoin
+            | Call::PthreadDetach
+            | Call::PthreadCancel
+            | Call::MutexUnlock
+            | Call::CondWait
+            | Call::CondTimedwait
+            | Call::CondSignal
+            | Call::CondBroadcast,
+        ) => true,
+        None
+        | Some(
+            Call::ConsolePut
+            | Call::ConsoleGet
+            | Call::ClockGettime
+            | Call::ClockNanosleep
+            | Call::PthreadSelf
+            | Call::SchedYield
+            | Call::PthreadSetschedparam
+            | Call::PthreadGetschedparam
+            | Call::PthreadSetschedprio
+            | Call::MutexInit
+            | Call::MutexDestroy
+            | Call::MutexLock
+            | Call::MutexTrylock
+            | Call::MutexTimedlock
+            | Call::MutexConsistent
+            | Call::CondInit
+            | Call::CondDestroy
+            | Call::PthreadSetcancelstate
+            | Call::PthreadSetcanceltype
+            | Call::PthreadTestcancel
+            | Call::CleanupPush
+            | Call::CleanupPop
+            | Call::KeyCreate
+            | Call::KeyDelete
+            | Call::PthreadSetspecific
+            | Call::PthreadGetspecific,
+        ) => false,
+    }
+}
+
+/// The call of this number that a step is, where it can give a mutex another owner.
+fn owner_call(entry: &Entry, number: u32) -> Option<OwnerCall>
+    ensures { result ≡ owner_call number entry.now }
+{
+    if changes_an_owner(number) {
+        Some(OwnerCall {
+            tick: entry.tick.ticks(),
+            cost: u64::from(cost(number)),
+        })
+    } else {
+        None
+    }
+}
+
+/// Whether a call of this number can give a mutex another owner while its caller goes on.
+fn changes_an_owner(number: u32) -> bool
+    ensures { result ≡ is_owner_call (call_of number) }
+{
+    match Call::of_number(number) {
+        Some(
+            Call::MutexInit
+            | Call::MutexDestroy
+            | Call::MutexLock
+            | Call::MutexTrylock
+            | Call::MutexTimedlock
+            | Call::MutexUnlock,
+        ) => true,
+        None
+        | Some(
+            Call::Exit
+            | Call::ConsolePut
+            | Call::ConsoleGet
+            | Call::ClockGettime
+            | Call::ClockNanosleep
+            | Call::PthreadCreate
+            | Call::PthreadExit
+            | Call::PthreadJoin
+            | Call::PthreadDetach
+            | Call::PthreadSelf
+            | Call::SchedYield
+            | Call::PthreadSetschedparam
+            | Call::PthreadGetschedparam
+            | Call::PthreadSetschedprio
+            | Call::MutexConsistent
+            | Call::CondInit
+            | Call::CondDestroy
+            | Call::CondWait
+            | Call::CondTimedwait
+            | Call::CondSignal
+            | Call::CondBroadcast
+            | Call::PthreadCancel
+            | Call::PthreadSetcancelstate
+            | Call::PthreadSetcanceltype
+            | Call::PthreadTestcancel
+            | Call::CleanupPush
+            | Call::CleanupPop
+            | Call::KeyCreate
+            | Call::KeyDelete
+            | Call::PthreadSetspecific
+            | Call::PthreadGetspecific,
+        ) => false,
+    }
+}
+
+/// How many ticks before `to` the partition's step takes that began at the tick.
+fn step_ticks(system: &System<'_>, p: PartId, tick: u64, to: u64) -> u64
+    requires partition { p < length system.now.config.sections }
+    requires early { tick ≤ LAST_TICK }
+    ensures { result ≡ step_ticks system.now p tick to }
+{
+    step_end(system, p, tick).min(to).saturating_sub(tick)
+}
+
+/// The end of the partition's step that began at the tick: its next decision, at the latest the end of its window, and
+/// the tick behind where it halted with it.
+fn step_end(system: &System<'_>, p: PartId, tick: u64) -> u64
+    requires partition { p < length system.now.config.sections }
+    requires early { tick ≤ LAST_TICK }
+    ensures { result ≡ step_end system.now p tick }
+{
+    if system.status(p).is_halted() {
+        return tick.saturating_add(1);
+    }
+    let end = window_end(system, p, tick);
+    match system.next(p) {
+        Some(next) => end.min(next.ticks()),
+        None => end,
+    }
+}
+
+/// The end of the partition's window that holds the tick, the tick itself where none does.
+fn window_end(system: &System<'_>, p: PartId, tick: u64) -> u64
+    requires { tick ≤ LAST_TICK }
+    ensures { result ≡ window_end system.now p tick }
+{
+    let config = system.config();
+    let Some((owner, end)) = config.plan().at(Tick::new(tick)) else {
+        return tick;
+    };
+    if owner.index() == p.index() {
+        end.ticks()
+    } else {
+        tick
+    }
+}

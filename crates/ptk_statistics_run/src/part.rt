@@ -1,0 +1,183 @@
+//! The figures of a partition.
+
+ghost use Rattle.std.specs.Prelude.{◌≡◌, ◌<◌, ◌≤◌, IfOk, length};
+ghost use Rattle.ptk_words.specs.declared.TheConstants.{LAST_TICK};
+ghost use Rattle.ptk_statistics_figures.specs.Counts.{reached};
+ghost use Rattle.ptk_statistics_run.specs.Parts.{IsBefore, IsKept};
+
+use crate::advance::{advance, first_count};
+use crate::observed::{Observed, OwnerCall};
+use ptk_main_runs::System;
+use ptk_statistics_figures::{Counted, Moment, MutexStatistics, ThreadStatistics};
+use ptk_words::PartId;
+use std::alloc::{AllocError, Global};
+
+/// What a system has just done, or will do.
+#[derive(Clone, Copy)]
+pub(crate) enum Sight {
+    /// It will make the decisions at its tick.
+    Coming,
+    /// It made the decisions at this tick, and stands at the next.
+    Decided(u64),
+}
+
+/// The figures of a partition: its ticks and steps, and what its threads and mutexes did.
+#[derive(Drop)]
+pub struct PartStatistics {
+    counted: Counted,
+    observed: Observed,
+    // how many of its steps were looked at
+    seen: u64,
+    is_due: bool,
+}
+
+impl PartStatistics {
+    /// The figures of a partition of a system that has just booted, with room for this many threads and mutexes. An
+    /// error where memory ran out. No other call takes memory.
+    pub(crate) fn new(
+        alloc: Global,
+        system: &System<'_>,
+        p: PartId,
+        threads: u32,
+        mutexes: u32,
+    ) -> Result<PartStatistics, AllocError>
+        requires partition { p < length system.now.config.sections }
+        requires begun { system.now.tick ≡ 0 }
+        ensures { IfOk result (IsKept system.now p) }
+    {
+        let observed = Observed::new(alloc, system, p, threads, mutexes)?;
+        Ok(PartStatistics {
+            counted: first_count(system, p),
+            observed,
+            seen: 0,
+            is_due: false,
+        })
+    }
+
+    /// Looks at what a system on its way to a tick has done, or will do.
+    pub(crate) fn look(&mut self, system: &System<'_>, p: PartId, sight: Sight, to: u64)
+        requires partition { p < length system.now.config.sections }
+        requires early { system.now.tick ≤ LAST_TICK }
+        requires last { IsBefore sight }
+        requires kept { IsKept system.now p self.old }
+        ensures { IsKept system.now p self.new }
+    {
+        match sight {
+            Sight::Coming => self.look_ahead(system, p),
+            Sight::Decided(tick) => self.look_at_decision(system, p, tick, to),
+        }
+    }
+
+    /// Looks whether the partition decides at the system's tick, and counts up to there if it does.
+    fn look_ahead(&mut self, system: &System<'_>, p: PartId)
+        requires partition { p < length system.now.config.sections }
+        requires early { system.now.tick ≤ LAST_TICK }
+        requires kept { IsKept system.now p self.old }
+        ensures { IsKept system.now p self.new }
+    {
+        self.is_due = system.next(p) == Some(system.tick());
+        if self.is_due {
+            self.observed.look_ahead(system, p);
+        }
+        if self.is_due && self.counted.tick() < system.tick().ticks() {
+            self.count(system, p);
+        }
+    }
+
+    /// Looks at the decision that the partition made at a tick, if it made one.
+    fn look_at_decision(&mut self, system: &System<'_>, p: PartId, tick: u64, to: u64)
+        requires partition { p < length system.now.config.sections }
+        requires early { system.now.tick ≤ LAST_TICK }
+        requires last { tick ≤ LAST_TICK }
+        requires kept { IsKept system.now p self.old }
+        ensures { IsKept system.now p self.new }
+    {
+        if self.is_due {
+            let own = self.counted.own();
+            self.observed.look(system, p, Moment { own, tick }, to);
+            self.count(system, p);
+        }
+    }
+
+    /// Looks at the plain steps that the partition made, and the quiet call behind them, if it made some. It counts
+    /// them later, with those that follow them up to the partition's next decision.
+    #[inline(always)]
+    pub(crate) fn look_at_row(&mut self, system: &System<'_>, p: PartId)
+        requires partition { p < length system.now.config.sections }
+        requires early { system.now.tick ≤ LAST_TICK }
+        requires kept { IsKept system.now p self.old }
+        ensures { IsKept system.now p self.new }
+    {
+        let steps = system.steps(p);
+        if steps == self.seen {
+            return;
+        }
+        self.seen = steps;
+        if let Some(call) = self.observed.look_at_row(system, p) {
+            self.look_at_owners(system, p, call);
+        }
+    }
+
+    /// Looks at the owners of the mutexes behind a call that can give one of them another.
+    #[inline(always)]
+    fn look_at_owners(&mut self, system: &System<'_>, p: PartId, call: OwnerCall)
+        requires partition { p < length system.now.config.sections }
+        requires early { system.now.tick ≤ LAST_TICK }
+        requires kept { IsKept system.now p self.old }
+        ensures { IsKept system.now p self.new }
+    {
+        self.count(system, p);
+        let own = self.counted.own().saturating_sub(call.cost);
+        let tick = call.tick;
+        self.observed
+            .look_at_owners(system, p, Moment { own, tick });
+    }
+
+    /// Counts up to the system's tick.
+    #[inline(always)]
+    fn count(&mut self, system: &System<'_>, p: PartId)
+        requires partition { p < length system.now.config.sections }
+        requires early { system.now.tick ≤ LAST_TICK }
+        requires kept { IsKept system.now p self.old }
+        ensures kept { IsKept system.now p self.new }
+        ensures tick { reached self.new.counted ≡ system.now.tick }
+    {
+        advance(&mut self.counted, system, p);
+        self.seen = self.counted.steps();
+    }
+
+    /// The run ends where the system stands.
+    pub(crate) fn finish(&mut self, system: &System<'_>, p: PartId)
+        requires partition { p < length system.now.config.sections }
+        requires early { system.now.tick ≤ LAST_TICK }
+        requires kept { IsKept system.now p self.old }
+        ensures kept { IsKept system.now p self.new }
+        ensures tick { reached self.new.counted ≡ system.now.tick }
+    {
+        self.count(system, p);
+        let own = self.counted.own();
+        let tick = self.counted.tick();
+        self.observed.finish(Moment { own, tick });
+    }
+
+    /// Its ticks and steps.
+    pub fn counted(&self) -> &Counted
+        ensures { result.now ≡ self.now.counted }
+    {
+        &self.counted
+    }
+
+    /// What its threads did, by number from 1.
+    pub fn threads(&self) -> &[ThreadStatistics]
+        ensures { result.now ≡ self.now.observed.threads.items }
+    {
+        self.observed.threads()
+    }
+
+    /// How long its mutexes were held and waited for, by number from 1.
+    pub fn mutexes(&self) -> &[MutexStatistics]
+        ensures { result.now ≡ self.now.observed.mutexes.items }
+    {
+        self.observed.mutexes()
+    }
+}

@@ -1,0 +1,211 @@
+//! The figures of a run.
+
+ghost use Rattle.std.specs.Prelude.{◌≡◌, ℕ, ◌<◌, ◌≤◌, IfOk, length, max, slice_index_or};
+ghost use Rattle.ptk_words.specs.declared.TheConstants.{LAST_TICK};
+ghost use Rattle.ptk_main_runs.specs.World.{at_tick};
+ghost use Rattle.ptk_statistics_run.specs.Parts.{AgreesWith, AreEnded, AreKept, IsBefore};
+
+use crate::part::{PartStatistics, Sight};
+use ptk_main_runs::System;
+use ptk_words::{ECALL, PartId, Tick};
+use std::alloc::{AllocError, Global};
+
+/// The figures of each partition of a run.
+#[derive(Drop)]
+pub struct Statistics {
+    parts: Vec<PartStatistics>,
+}
+
+impl Statistics {
+    /// Runs a system that has just booted on to a tick, and gathers its figures up to there. The run is that of
+    /// `run_to`. An error where memory ran out: the system is then as it was.
+    pub fn of_run(
+        alloc: Global,
+        system: &mut System<'_>,
+        to: Tick,
+    ) -> Result<Statistics, AllocError>
+        requires begun { system.old.tick ≡ 0 }
+        requires early { to ≤ LAST_TICK }
+        ensures run { IfOk result (λ _. system.new ≡ at_tick to system.old) }
+        ensures agrees { IfOk result (AgreesWith system.new) }
+    {
+        let parts = first_parts(alloc, system)?;
+        let mut statistics = Statistics { parts };
+        statistics.run(system, to);
+        system.run_to(to);
+        statistics.finish(system);
+        Ok(statistics)
+    }
+
+    /// The figures of the partitions, in their order.
+    pub fn parts(&self) -> &[PartStatistics]
+        ensures { result.now ≡ self.now.parts.items }
+    {
+        self.parts.as_slice()
+    }
+
+    /// Goes on from change to change, before a tick.
+    fn run(&mut self, system: &mut System<'_>, to: Tick)
+        requires early { to ≤ LAST_TICK }
+        requires order { system.old.tick ≤ to }
+        requires kept { AreKept system.old self.old.parts.items }
+        ensures run { system.new ≡ at_tick system.new.tick system.old }
+        ensures within { system.new.tick ≤ to }
+        ensures kept { AreKept system.new self.new.parts.items }
+    {
+        system.states_are_alone();
+        let mut tick = system.tick().ticks();
+        while tick < to.ticks() {
+            self.go_on(system, to);
+            tick = system.tick().ticks();
+        }
+    }
+
+    /// Goes on over plain steps and the quiet call behind them, or else over the decisions at the system's tick.
+    fn go_on(&mut self, system: &mut System<'_>, to: Tick)
+        requires early { to ≤ LAST_TICK }
+        requires due { system.old.tick < to }
+        requires kept { AreKept system.old self.old.parts.items }
+        ensures run { system.new ≡ at_tick system.new.tick system.old }
+        ensures on { system.old.tick < system.new.tick }
+        ensures within { system.new.tick ≤ to }
+        ensures kept { AreKept system.new self.new.parts.items }
+    {
+        let tick = system.tick();
+        if is_running(system, tick) {
+            system.call_to(to);
+            self.look_at_rows(system);
+        }
+        let reached = system.tick();
+        if reached == tick
+            || (reached.ticks() < to.ticks() && is_behind_plain_step(system, reached))
+        {
+            self.decide(system, reached.ticks(), to);
+        }
+    }
+
+    /// Goes on over the decisions at the system's tick, and to the next change.
+    fn decide(&mut self, system: &mut System<'_>, tick: u64, to: Tick)
+        requires early { to ≤ LAST_TICK }
+        requires at { system.old.tick ≡ tick }
+        requires due { tick < to }
+        requires kept { AreKept system.old self.old.parts.items }
+        ensures run { system.new ≡ at_tick system.new.tick system.old }
+        ensures on { tick < system.new.tick }
+        ensures within { system.new.tick ≤ to }
+        ensures kept { AreKept system.new self.new.parts.items }
+    {
+        self.look(system, Sight::Coming, to);
+        system.run_to(Tick::new(tick + 1));
+        self.look(system, Sight::Decided(tick), to);
+        system.run_to(system.all_stay_until(to));
+    }
+
+    /// Looks at what the system has done, or will do, of each partition.
+    fn look(&mut self, system: &System<'_>, sight: Sight, to: Tick)
+        requires early { system.now.tick ≤ LAST_TICK }
+        requires last { IsBefore sight }
+        requires kept { AreKept system.now self.old.parts.items }
+        ensures { AreKept system.now self.new.parts.items }
+    {
+        look_all(self.parts.as_mut_slice(), system, sight, to);
+    }
+
+    /// Looks at the plain steps and the quiet calls that the system went on over, of each partition.
+    fn look_at_rows(&mut self, system: &System<'_>)
+        requires early { system.now.tick ≤ LAST_TICK }
+        requires kept { AreKept system.now self.old.parts.items }
+        ensures { AreKept system.now self.new.parts.items }
+    {
+        look_at_all_rows(self.parts.as_mut_slice(), system);
+    }
+
+    /// The run ends where the system stands.
+    fn finish(&mut self, system: &System<'_>)
+        requires early { system.now.tick ≤ LAST_TICK }
+        requires kept { AreKept system.now self.old.parts.items }
+        ensures { AgreesWith system.now self.new }
+    {
+        system.states_are_alone();
+        finish_all(self.parts.as_mut_slice(), system);
+    }
+}
+
+/// Looks at what the system has done, or will do, of each partition.
+fn look_all(parts: &mut [PartStatistics], system: &System<'_>, sight: Sight, to: Tick)
+    requires early { system.now.tick ≤ LAST_TICK }
+    requires last { IsBefore sight }
+    requires kept { AreKept system.now parts.old }
+    ensures { AreKept system.now parts.new }
+{
+    for i in 0..parts.len().min(system.parts()) {
+        parts[i].look(system, PartId::new(i as u8), sight, to.ticks());
+    }
+}
+
+/// Looks at the plain steps and the quiet calls that the system went on over, of each partition.
+fn look_at_all_rows(parts: &mut [PartStatistics], system: &System<'_>)
+    requires early { system.now.tick ≤ LAST_TICK }
+    requires kept { AreKept system.now parts.old }
+    ensures { AreKept system.now parts.new }
+{
+    for i in 0..parts.len().min(system.parts()) {
+        parts[i].look_at_row(system, PartId::new(i as u8));
+    }
+}
+
+/// The run ends where the system stands.
+fn finish_all(parts: &mut [PartStatistics], system: &System<'_>)
+    requires early { system.now.tick ≤ LAST_TICK }
+    requires kept { AreKept system.now parts.old }
+    ensures kept { AreKept system.now parts.new }
+    ensures ended { AreEnded system.now (length parts.new) parts.new }
+{
+    for i in 0..parts.len().min(system.parts()) {
+        parts[i].finish(system, PartId::new(i as u8));
+    }
+}
+
+/// The figures of a booted system's partitions before the first tick.
+fn first_parts(alloc: Global, system: &System<'_>) -> Result<Vec<PartStatistics>, AllocError>
+    requires { system.now.tick ≡ 0 }
+    ensures { IfOk result (λ parts. AreKept system.now parts.items) }
+{
+    let mut parts = Vec::new(alloc);
+    for i in 0..system.parts() {
+        let (threads, mutexes) = match system.config().sections().get(i) {
+            Some(section) => (section.limits().threads, section.limits().mutexes),
+            None => (0, 0),
+        };
+        let p = PartId::new(i as u8);
+        parts.push(PartStatistics::new(alloc, system, p, threads, mutexes)?)?;
+    }
+    Ok(parts)
+}
+
+/// Whether a partition that decides at the tick has a thread that runs.
+fn is_running(system: &System<'_>, tick: Tick) -> bool {
+    for i in 0..system.parts() {
+        let p = PartId::new(i as u8);
+        if system.next(p) == Some(tick) {
+            return system.running(p).is_some();
+        }
+    }
+    false
+}
+
+/// Whether a partition that decides at the tick made a plain step just before it: a row of plain steps that ended there
+/// is followed by no quiet call.
+fn is_behind_plain_step(system: &System<'_>, tick: Tick) -> bool {
+    for i in 0..system.parts() {
+        let p = PartId::new(i as u8);
+        if system.next(p) == Some(tick) {
+            return match system.last_step(p) {
+                Some(entry) => entry.word != ECALL
+                    && entry.tick.ticks().saturating_add(1) == tick.ticks(),
+                None => false,
+            };
+        }
+    }
+    false
+}
