@@ -4,7 +4,7 @@ use Rattle.std.specs.Prelude.{IfSome, option_map, decimal}
 use Rattle.std.specs.List.{concat}
 use Rattle.std.specs.Fmt.{char_count, digits, format_spec, option_append, padded, padded_integral, styled_decimal, styled_text}
 use Rattle.std.specs.Io.KnownBytes.{Appends}
-use Rattle.std.proofs.KnownBytes.{Appends-nil, Appends-trans}
+use Rattle.std.proofs.KnownBytes.{Appends-trans}
 use Rattle.std.proofs.Padding.{padded_integral_right, padded_integral_zeros, padded_whole, repeat_ascii, styled_decimal_is, take_chars_all}
 use Rattle.std.proofs.lemmas.Bool.{ne_eqb}
 use Rattle.std.proofs.lemmas.List.{flat_map_more, length-take-le, take_all, take_min, take_more}
@@ -90,10 +90,6 @@ stack_put stack pointer old new is put = subst (λ (o : Option ℕ). Appends old
 -- it is there
 pub used : (is there : Bool) (text : List ℕ) (old new : Option (List ℕ)) → is ≡ there → is ≡ true → Appends old new text → Appends old new (cond there text [])
 used is there text old new same holds put = subst (λ (b : Bool). Appends old new (cond b text [])) (sym holds ∙ same) put
-
--- it is not
-pub unused : (is there : Bool) (text : List ℕ) (bytes : Option (List ℕ)) → is ≡ there → is ≡ false → Appends bytes bytes (cond there text [])
-unused is there text bytes same fails = subst (λ (b : Bool). Appends bytes bytes (cond b text [])) (sym fails ∙ same) (Appends-nil bytes)
 
 -- there are some
 made : (none : Bool) (text : List ℕ) (old new : Option (List ℕ)) → none ≡ false → Appends old new text → Appends old new (cond none [] text)
@@ -287,12 +283,6 @@ block_asked world asked place name status part found old new is e1 e2 e3 put ear
     let whole : PutsIfCounted part.counted (block_text its_name its_status part) old new =
     subst (λ (p : PartStatistics). PutsIfCounted p.counted (block_text its_name its_status p) old new) e3 standing in
     subst (λ (b : Bool). Appends old new (cond b (block_text its_name its_status part) [])) (sym is) (whole early)
-
--- one that is not asked for
-pub block_unasked : (world : World) (asked : Option (Bor (List ℕ))) (place : ℕ) (part : PartStatistics) (bytes : Option (List ℕ))
-    → is_asked asked (section_at world.config place).name ≡ false → PutsIfCounted part.counted (asked_block world asked place part) bytes bytes
-block_unasked world asked place part bytes is early =
-    subst (λ (b : Bool). Appends bytes bytes (cond b (block_text (section_at world.config place).name (status_in (state_of world place).part) part) [])) (sym is) (Appends-nil bytes)
 
 -- the own ticks of the partition that was read
 pub counted_at : (parts : List PartStatistics) (place : ℕ) (part : PartStatistics) → AreCounted parts → place < length parts → part ≡ get_or parts place part
