@@ -40,12 +40,7 @@ fn is_least(system: &System<'_>, p: PartId, t: ThreadNo) -> bool
 }
 
 /// The next thread of a cycle that begins with `first`, None behind the last.
-pub fn following(
-    system: &System<'_>,
-    p: PartId,
-    first: ThreadNo,
-    at: ThreadNo,
-) -> Option<ThreadNo>
+pub fn following(system: &System<'_>, p: PartId, first: ThreadNo, at: ThreadNo) -> Option<ThreadNo>
     requires { p < length system.now.config.sections }
     ensures { result ≡ following_in (state_of system.now p).part first at }
 {
