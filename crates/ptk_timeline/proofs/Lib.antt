@@ -1,3 +1,4 @@
 pub mod Measures
 pub mod Written
 pub mod Routines
+pub mod Looks

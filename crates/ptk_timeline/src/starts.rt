@@ -1,12 +1,12 @@
 //! Where the threads of a run start, and the names of the routines there.
 
-ghost use Rattle.std.specs.Prelude.{◌≡◌, ◌<◌, ◌≤◌, [], IfOk, OnErr, length, max, option_map, replicate};
+ghost use Rattle.std.specs.Prelude.{◌≡◌, ℕ, ◌<◌, ◌≤◌, [], IfOk, OnErr, length, max, option_map, replicate};
 ghost use Rattle.ptk_words.specs.declared.TheConstants.{LAST_TICK, THREAD_LIMIT};
 ghost use Rattle.ptk_symbols.specs.Tables.{exact};
 ghost use Rattle.ptk_timeline_segments.specs.Shades.{shade_of};
 ghost use Rattle.ptk_timeline_segments.specs.World.{at_tick};
 ghost use Rattle.ptk_timeline.specs.Layout.{is_thread};
-ghost use Rattle.ptk_timeline.specs.Starts.{IsSeen, has_thread, no_thread, routine_of, start_of};
+ghost use Rattle.ptk_timeline.specs.Starts.{AllAreLooked, AreLooked, AreSeenTo, no_thread, routine_of, seen_after, seen_to, start_of};
 
 use ptk_symbols::{Located, Symbols};
 use ptk_timeline_segments::{Activity, System};
@@ -35,12 +35,14 @@ impl Seen {
     /// yet.
     fn look(&mut self, system: &System<'_>, p: PartId, t: ThreadNo)
         requires { p < length system.now.config.sections }
-        ensures { IsSeen (has_thread system.now p t) self.old self.new }
+        ensures { self.new ≡ seen_after system.now p t self.old }
     {
         let is_used = is_thread_doing(&system.activity(p, t));
-        if is_used && !self.is_used {
-            self.start = system.pc(p, t);
-        }
+        self.start = if is_used && !self.is_used {
+            system.pc(p, t)
+        } else {
+            self.start
+        };
         self.is_used = is_used;
     }
 }
@@ -80,11 +82,20 @@ impl Numbers {
     /// What is seen of a partition's threads after a decision.
     fn look(&mut self, system: &System<'_>, p: PartId)
         requires { p < length system.now.config.sections }
-        ensures { length self.new.seen.items ≡ length self.old.seen.items }
+        ensures { AreLooked system.now p self.old.seen.items self.new.seen.items }
     {
-        for i in 0..self.seen.len().min(THREAD_LIMIT as usize) {
-            self.seen[i].look(system, p, ThreadNo::new(i as u8 + 1));
-        }
+        look_at_numbers(self.seen.as_mut_slice(), system, p);
+    }
+}
+
+/// What is seen of the numbers of a partition's threads after a decision.
+fn look_at_numbers(seen: &mut [Seen], system: &System<'_>, p: PartId)
+    requires { p < length system.now.config.sections }
+    ensures { AreLooked system.now p seen.old seen.new }
+{
+    for place in 0..seen.len().min(THREAD_LIMIT as usize) {
+        let t = ThreadNo::new(place as u8 + 1);
+        seen[place].look(system, p, t);
     }
 }
 
@@ -113,7 +124,10 @@ impl Starts {
         ensures run { IfOk result (λ _. system.new ≡ at_tick system.new.tick system.old) }
         ensures within { IfOk result (λ _. system.new.tick ≤ max system.old.tick to) }
         ensures still { OnErr result (system.new ≡ system.old) }
+        ensures starts { IfOk result (λ starts. (p t : ℕ) → p < length system.old.config.sections → 0 < t → t ≤ THREAD_LIMIT
+            → start_of starts p t ≡ (seen_to system.old p t (max system.old.tick to)).start) }
     {
+        system.states_are_alone();
         let mut parts = Vec::new(alloc);
         for _part in 0..system.parts() {
             parts.push(Numbers::new(alloc)?)?;
@@ -126,11 +140,9 @@ impl Starts {
 
     /// What is seen of the threads of all partitions after a decision.
     fn look(&mut self, system: &System<'_>)
-        ensures { length self.new.parts.items ≡ length self.old.parts.items }
+        ensures { AllAreLooked system.now self.old.parts.items self.new.parts.items }
     {
-        for i in 0..self.parts.len().min(system.parts()) {
-            self.parts[i].look(system, PartId::new(i as u8));
-        }
+        look_at_parts(self.parts.as_mut_slice(), system);
     }
 
     /// Runs a system on to a tick, and looks at its threads after each decision but plain steps in a row and quiet
@@ -140,6 +152,7 @@ impl Starts {
         ensures count { length self.new.parts.items ≡ length self.old.parts.items }
         ensures run { system.new ≡ at_tick system.new.tick system.old }
         ensures within { system.new.tick ≤ max system.old.tick to }
+        ensures seen { AreSeenTo system.old system.old.tick self.old.parts.items → AreSeenTo system.old (max system.old.tick to) self.new.parts.items }
     {
         system.states_are_alone();
         let end = to.ticks();
@@ -148,7 +161,9 @@ impl Starts {
             system.run_to(Tick::new(tick + 1));
             self.look(system);
             system.compute_to(to);
-            tick = system.all_stay_until(to).ticks().max(tick + 1);
+            let next = system.all_stay_until(to).ticks();
+            let after = next.max(tick + 1);
+            tick = after;
         }
     }
 
@@ -159,6 +174,16 @@ impl Starts {
         let numbers = self.parts.get(p.index())?;
         let seen = numbers.seen.get(number.saturating_sub(1))?;
         seen.start
+    }
+}
+
+/// What is seen of the threads of partitions after a decision.
+fn look_at_parts(parts: &mut [Numbers], system: &System<'_>)
+    ensures { AllAreLooked system.now parts.old parts.new }
+{
+    for i in 0..parts.len().min(system.parts()) {
+        let p = PartId::new(i as u8);
+        parts[i].look(system, p);
     }
 }
 
