@@ -1,19 +1,24 @@
 //! The tick axis.
 
-ghost use Rattle.std.specs.Prelude.{ℕ, ◌-◌, ◌<◌, OnOk};
+ghost use Rattle.std.specs.Prelude.{◌≡◌, ◌<◌, OnOk};
 ghost use Rattle.std.specs.Io.KnownBytes.{Appends};
-ghost use Rattle.ptk_timeline.specs.Axis.{axis_text, number_at, number_text};
+ghost use Rattle.ptk_timeline.specs.Axis.{axis_lines, axis_text, number_at, number_text, round_from, step_of};
 
 use crate::layout::{TOP, column_width, place_of};
 use ptk_timeline_segments::Scale;
 use std::io;
 use std::io::Write;
 
-/// Writes the axis above the lanes, with a line down to `end` at each number: the multiples of a step from the first
+/// How many pixels there are from one number to the next at least.
+const APART: u64 = 90;
+
+/// How many digits the largest step has behind its first: all that a power of ten of 64 bits has but one.
+const MOST_DIGITS: u32 = 18;
+
+/// Writes the axis above the lanes, with a line down to `end` at each number: the multiples of the step from the first
 /// tick to the tick behind the last.
 pub(crate) fn write_axis<W: Write>(out: &mut W, scale: Scale, end: u32) -> io::Result<()>
-    ensures { OnOk result ((step : ℕ) × (0 < step)
-        × Appends (W.contents out.old) (W.contents out.new) (axis_text scale step (end - (TOP - 8)))) }
+    ensures { OnOk result (Appends (W.contents out.old) (W.contents out.new) (axis_lines scale end)) }
 {
     let step = step_of(scale);
     let length = end.saturating_sub(TOP - 8);
@@ -53,11 +58,19 @@ fn write_number_at<W: Write>(out: &mut W, x: u64, tick: u64, length: u32) -> io:
 
 /// The ticks from one number to the next: 1, 2 or 5 times a power of ten, so that they stand 90 pixels apart or more.
 fn step_of(scale: Scale) -> u64
-    ensures { 0 < result }
+    ensures value { result ≡ step_of scale }
+    ensures some { 0 < result }
 {
-    let least = scale.each().saturating_mul(90) / column_width(scale);
+    round_from(scale.each().saturating_mul(APART) / column_width(scale))
+}
+
+/// The least of 1, 2 and 5 times the powers of ten that is no less than this; 10^18 where that is less.
+fn round_from(least: u64) -> u64
+    ensures value { result ≡ round_from MOST_DIGITS least }
+    ensures some { 0 < result }
+{
     let mut power = 1u64;
-    for _ in 0..18 {
+    for _exponent in 0..MOST_DIGITS {
         if least <= power {
             return power;
         }

@@ -1,10 +1,10 @@
 //! The legend.
 
-ghost use Rattle.std.specs.Prelude.{OnOk};
+ghost use Rattle.std.specs.Prelude.{◌≡◌, ◌*◌, ◌/◌, ◌%◌, ◌<◌, OnOk, map};
 ghost use Rattle.std.specs.Io.KnownBytes.{Appends};
 ghost use Rattle.ptk_timeline.specs.Layout.{below, right_of};
 ghost use Rattle.ptk_timeline.specs.Shapes.{words_text};
-ghost use Rattle.ptk_timeline.specs.Legend.{columns_text, each_text, entry_text, narrow_text};
+ghost use Rattle.ptk_timeline.specs.Legend.{columns_text, each_text, entries_text, entry_text, legend_text, mark_entries, narrow_text, shade_entries};
 
 use crate::layout::{LEFT, are_windows_wide};
 use crate::shapes::{Rect, write_rect, write_text};
@@ -43,17 +43,71 @@ const MARKS: [(&str, &str); 9] = [
     ("plan", "the plan's next windows begin"),
 ];
 
+/// How high a line of entries is.
+const LINE: u64 = 18;
+
+/// Lines of entries: this many in a line, each this wide.
+#[derive(Clone, Copy)]
+struct Lines {
+    columns: usize,
+    width: u64,
+    ghost some: { 0 < columns },
+}
+
+impl Lines {
+    /// Where the entry of a number is, from the left.
+    fn left(self, number: usize) -> u64
+        ensures { result ≡ right_of LEFT (number % self.columns * self.width) }
+    {
+        let place = (number % self.columns) as u64;
+        LEFT.saturating_add(place.saturating_mul(self.width))
+    }
+
+    /// Where the entry of a number is, from the top.
+    fn top(self, number: usize, top: u32) -> u32
+        ensures { result ≡ below top (number / self.columns * LINE) }
+    {
+        let line = (number / self.columns) as u64;
+        let y = u64::from(top).saturating_add(line.saturating_mul(LINE));
+        y.min(u64::from(u32::MAX)) as u32
+    }
+}
+
 /// Writes the legend below `top`.
 pub(crate) fn write_legend<W: Write>(
     out: &mut W,
     config: &Config,
     scale: Scale,
     top: u32,
-) -> io::Result<()> {
-    write_entries(out, &SHADES, 3, 300, top)?;
-    write_entries(out, &MARKS, 2, 540, top.saturating_add(80))?;
+) -> io::Result<()>
+    ensures { OnOk result (Appends (W.contents out.old) (W.contents out.new) (legend_text config.now scale top)) }
+{
+    write_shades(out, top)?;
+    write_marks(out, top.saturating_add(80))?;
     write_columns(out, scale, top.saturating_add(11))?;
     write_narrow(out, config, scale, top.saturating_add(29))
+}
+
+/// Writes the entries of the shades below `top`.
+fn write_shades<W: Write>(out: &mut W, top: u32) -> io::Result<()>
+    ensures { OnOk result (Appends (W.contents out.old) (W.contents out.new) (entries_text 3 300 top shade_entries)) }
+{
+    let lines = Lines {
+        columns: 3,
+        width: 300,
+    };
+    write_entries(out, &SHADES, lines, top)
+}
+
+/// Writes the entries of the marks below `top`.
+fn write_marks<W: Write>(out: &mut W, top: u32) -> io::Result<()>
+    ensures { OnOk result (Appends (W.contents out.old) (W.contents out.new) (entries_text 2 540 top mark_entries)) }
+{
+    let lines = Lines {
+        columns: 2,
+        width: 540,
+    };
+    write_entries(out, &MARKS, lines, top)
 }
 
 /// Writes that windows are not drawn, where they are too narrow.
@@ -84,24 +138,23 @@ fn write_each<W: Write>(out: &mut W, each: u64, y: u32) -> io::Result<()>
     writeln!(out, "<text x=\"8\" y=\"{y}\">a column: {each} ticks</text>")
 }
 
-/// Writes entries below `top`, this many in a line, each so wide.
+/// Writes entries in lines below `top`.
 fn write_entries<W: Write>(
     out: &mut W,
     entries: &[(&str, &str)],
-    columns: u32,
-    width: u64,
+    lines: Lines,
     top: u32,
-) -> io::Result<()> {
-    let (mut left, mut x, mut y) = (columns, LEFT, top);
-    for (class, words) in entries {
-        write_entry(out, class, words, x, y)?;
-        left = left.saturating_sub(1);
-        x = x.saturating_add(width);
-        if left == 0 {
-            left = columns;
-            x = LEFT;
-            y = y.saturating_add(18);
-        }
+) -> io::Result<()>
+    ensures { OnOk result (Appends (W.contents out.old) (W.contents out.new) (entries_text lines.columns lines.width top (map (λ entry. (entry.0.now, entry.1.now)) entries.now))) }
+{
+    for (number, entry) in entries.iter().enumerate() {
+        write_entry(
+            out,
+            entry.0,
+            entry.1,
+            lines.left(number),
+            lines.top(number, top),
+        )?;
     }
     Ok(())
 }

@@ -1,14 +1,17 @@
 //! The marks of a lane: arrivals of input, input lost, ticks lost, and the end of the partition.
 
-ghost use Rattle.std.specs.Prelude.{[], OnOk, if◌then◌else◌};
+ghost use Rattle.std.specs.Prelude.{◌≡◌, [], IfOk, OnOk, Some, flat_map, if◌then◌else◌};
 ghost use Rattle.std.specs.Io.KnownBytes.{Appends};
-ghost use Rattle.ptk_timeline.specs.Layout.{below, column_width};
-ghost use Rattle.ptk_timeline.specs.Marks.{column_marks, dropped_text, halted_text, lost_text};
+ghost use Rattle.std.specs.List.{enumerate_from};
+ghost use Rattle.ptk_timeline_segments.specs.World.{section_at};
+ghost use Rattle.ptk_timeline.specs.Layout.{below, column_width, place_of};
+ghost use Rattle.ptk_timeline.specs.Marks.{arrivals_text, arrived_text, column_marks, dropped_text, halted_text, is_in_picture, is_marked, is_right_of, lost_text, marks_text, numbered_marks};
 
 use crate::layout::{Place, column_place, column_width, place_of};
 use crate::shapes::{Rect, begin_rect};
 use ptk_config::Config;
 use ptk_timeline_segments::{Lane, Marks, Scale};
+use ptk_words::Arrival;
 use std::io;
 use std::io::Write;
 
@@ -19,10 +22,19 @@ pub(crate) fn write_marks<W: Write>(
     scale: Scale,
     lane: &Lane,
     place: Place,
-) -> io::Result<()> {
+) -> io::Result<()>
+    ensures { OnOk result (Appends (W.contents out.old) (W.contents out.new) (marks_text config.now scale lane.now place)) }
+{
     write_arrivals(out, config, scale, place)?;
-    for (column, marks) in lane.marks().iter().enumerate() {
-        write_column(out, scale, column_place(scale, column), *marks, place.top)?;
+    write_columns(out, scale, lane.marks(), place.top)
+}
+
+/// Writes the marks of each column, in the head of a lane below its top.
+fn write_columns<W: Write>(out: &mut W, scale: Scale, marks: &[Marks], top: u32) -> io::Result<()>
+    ensures { OnOk result (Appends (W.contents out.old) (W.contents out.new) (flat_map (numbered_marks scale top) (enumerate_from 0 marks.now))) }
+{
+    for (column, here) in marks.iter().enumerate() {
+        write_column(out, scale, column_place(scale, column), *here, top)?;
     }
     Ok(())
 }
@@ -101,28 +113,88 @@ fn write_lost<W: Write>(out: &mut W, x: u64, y: u32, width: u64) -> io::Result<(
     out.write_all(b"><title>ticks lost</title></rect>\n")
 }
 
-/// Writes a mark for each column in which input comes.
+/// Writes a mark for each place at which input of a partition comes.
 fn write_arrivals<W: Write>(
     out: &mut W,
     config: &Config,
     scale: Scale,
     place: Place,
-) -> io::Result<()> {
-    let y = place.top.saturating_add(10);
-    let mut behind = 0;
-    let Some(section) = config.sections().get(place.number) else {
-        return Ok(());
-    };
-    for arrival in section.input().iter() {
-        let tick = arrival.tick.ticks();
-        let x = place_of(scale, tick);
-        if scale.from() <= tick && tick < scale.to() && behind <= x {
-            writeln!(
-                out,
-                "<path class=\"arrived\" d=\"M{x} {y}l4 -8h-8z\"><title>input at tick {tick}</title></path>"
-            )?;
-            behind = x.saturating_add(1);
-        }
+) -> io::Result<()>
+    ensures { OnOk result (Appends (W.contents out.old) (W.contents out.new) (arrivals_text scale (below place.top 10) (section_at config.now place.number).input)) }
+{
+    match config.sections().get(place.number) {
+        Some(section) => write_input(out, scale, section.input(), place.top.saturating_add(10)),
+        None => Ok(()),
+    }
+}
+
+/// Writes a mark for each place at which some of this input comes.
+fn write_input<W: Write>(out: &mut W, scale: Scale, input: &[Arrival], y: u32) -> io::Result<()>
+    ensures { OnOk result (Appends (W.contents out.old) (W.contents out.new) (arrivals_text scale y input.now)) }
+{
+    let mut last = None;
+    for arrival in input {
+        last = write_if_marked(out, scale, last, y, arrival.tick.ticks())?;
     }
     Ok(())
+}
+
+/// Writes the mark of input that comes at a tick, where it has one right of the last one, and returns where the last
+/// one then is.
+fn write_if_marked<W: Write>(
+    out: &mut W,
+    scale: Scale,
+    last: Option<u64>,
+    y: u32,
+    tick: u64,
+) -> io::Result<Option<u64>>
+    ensures text { OnOk result (Appends (W.contents out.old) (W.contents out.new) (if is_marked scale last tick then arrived_text (place_of scale tick) y tick else [])) }
+    ensures last { IfOk result (λ mark. mark ≡ (if is_marked scale last tick then Some (place_of scale tick) else last)) }
+{
+    let x = place_of(scale, tick);
+    if !is_marked(scale, last, tick) {
+        return Ok(last);
+    }
+    write_arrival(out, x, y, tick)?;
+    Ok(Some(x))
+}
+
+/// Whether input that comes at a tick has a mark right of the last one, if there is one.
+fn is_marked(scale: Scale, last: Option<u64>, tick: u64) -> bool
+    ensures { result ≡ is_marked scale last tick }
+{
+    if !is_in_picture(scale, tick) {
+        return false;
+    }
+    is_right_of(last, place_of(scale, tick))
+}
+
+/// Whether the picture has the tick.
+fn is_in_picture(scale: Scale, tick: u64) -> bool
+    ensures { result ≡ is_in_picture scale tick }
+{
+    if tick < scale.from() {
+        return false;
+    }
+    tick < scale.to()
+}
+
+/// Whether a place is right of a mark, if there is one.
+fn is_right_of(mark: Option<u64>, x: u64) -> bool
+    ensures { result ≡ is_right_of mark x }
+{
+    match mark {
+        Some(mark) => mark < x,
+        None => true,
+    }
+}
+
+/// Writes the mark of input that comes at a tick.
+fn write_arrival<W: Write>(out: &mut W, x: u64, y: u32, tick: u64) -> io::Result<()>
+    ensures { OnOk result (Appends (W.contents out.old) (W.contents out.new) (arrived_text x y tick)) }
+{
+    writeln!(
+        out,
+        "<path class=\"arrived\" d=\"M{x} {y}l4 -8h-8z\"><title>input at tick {tick}</title></path>"
+    )
 }

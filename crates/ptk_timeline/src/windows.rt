@@ -1,14 +1,15 @@
 //! A partition's windows, and those of the others.
 
-ghost use Rattle.std.specs.Prelude.{◌≤◌, OnOk};
+ghost use Rattle.std.specs.Prelude.{[], OnOk, if◌then◌else◌};
 ghost use Rattle.std.specs.Io.KnownBytes.{Appends};
-ghost use Rattle.ptk_words.specs.declared.TheConstants.{LAST_TICK};
-ghost use Rattle.ptk_timeline.specs.Windows.{gap_text, others_text, window_text};
+ghost use Rattle.ptk_timeline.specs.Layout.{are_windows_wide};
+ghost use Rattle.ptk_timeline.specs.Windows.{all_others_text, gap_text, gaps_text, ground_text, others_text, shown_spans, spans_text, window_text, windows_text};
 
 use crate::layout::{HEAD, LEFT, Place, are_windows_wide, place_of, plot_width};
 use crate::shapes::{Rect, begin_rect, write_rect};
 use ptk_config::Config;
 use ptk_timeline_segments::{Scale, Span, next_window};
+use ptk_window::WindowPlan;
 use std::io;
 use std::io::Write;
 
@@ -18,7 +19,17 @@ pub(crate) fn write_windows<W: Write>(
     config: &Config,
     scale: Scale,
     place: Place,
-) -> io::Result<()> {
+) -> io::Result<()>
+    ensures { OnOk result (Appends (W.contents out.old) (W.contents out.new) (windows_text config.now scale place)) }
+{
+    write_ground(out, scale, place)?;
+    write_if_wide(out, config, scale, place)
+}
+
+/// Writes a lane's ground.
+fn write_ground<W: Write>(out: &mut W, scale: Scale, place: Place) -> io::Result<()>
+    ensures { OnOk result (Appends (W.contents out.old) (W.contents out.new) (ground_text scale place)) }
+{
     let lane = Rect {
         class: "lane",
         x: LEFT,
@@ -26,12 +37,36 @@ pub(crate) fn write_windows<W: Write>(
         width: plot_width(scale),
         height: place.height,
     };
-    write_rect(out, &lane)?;
+    write_rect(out, &lane)
+}
+
+/// Writes each of a partition's windows, none where they are too narrow to draw.
+fn write_if_wide<W: Write>(
+    out: &mut W,
+    config: &Config,
+    scale: Scale,
+    place: Place,
+) -> io::Result<()>
+    ensures { OnOk result (Appends (W.contents out.old) (W.contents out.new) (if are_windows_wide config.now scale then spans_text config.now.plan scale place else [])) }
+{
     if !are_windows_wide(config, scale) {
         return Ok(());
     }
+    write_spans(out, config.plan(), scale, place)
+}
+
+/// Writes each of a partition's windows.
+fn write_spans<W: Write>(
+    out: &mut W,
+    plan: &WindowPlan,
+    scale: Scale,
+    place: Place,
+) -> io::Result<()>
+    ensures { OnOk result (Appends (W.contents out.old) (W.contents out.new) (spans_text plan.now scale place)) }
+{
+    let (p, stop) = (place.part(), scale.to());
     let mut tick = scale.from();
-    while let Some(window) = next_window(config.plan(), place.part(), tick, scale.to()) {
+    while let Some(window) = next_window(plan, p, tick, stop) {
         write_window(out, scale, window, place)?;
         tick = window.to;
     }
@@ -64,16 +99,32 @@ pub(crate) fn write_others<W: Write>(
     scale: Scale,
     name: &str,
     place: Place,
-) -> io::Result<()> {
+) -> io::Result<()>
+    ensures { OnOk result (Appends (W.contents out.old) (W.contents out.new) (all_others_text config.now scale name.now place)) }
+{
     if !are_windows_wide(config, scale) {
         return Ok(());
     }
+    write_gaps(out, config.plan(), scale, name, place)
+}
+
+/// Writes over the rows of a lane the ticks before each of the partition's windows, and those behind the last.
+fn write_gaps<W: Write>(
+    out: &mut W,
+    plan: &WindowPlan,
+    scale: Scale,
+    name: &str,
+    place: Place,
+) -> io::Result<()>
+    ensures { OnOk result (Appends (W.contents out.old) (W.contents out.new) (gaps_text scale name.now place scale.from (shown_spans plan.now scale place.number))) }
+{
+    let (p, stop) = (place.part(), scale.to());
     let mut tick = scale.from();
-    while let Some(window) = next_window(config.plan(), place.part(), tick, scale.to()) {
+    while let Some(window) = next_window(plan, p, tick, stop) {
         write_other(out, scale, name, tick, window.from, place)?;
         tick = window.to;
     }
-    write_other(out, scale, name, tick, scale.to(), place)
+    write_other(out, scale, name, tick, stop, place)
 }
 
 /// Writes the ticks from one on and before another, which are not the partition's.

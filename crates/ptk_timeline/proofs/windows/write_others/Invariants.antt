@@ -1,5 +1,0 @@
-use Rattle.std.proofs.Common.{◌-◌}
-use Rattle.ptk_timeline.proofs.windows.write_others.Given as goal
-
-abbrev pub decreases-loop-window : goal.decreases-loop-window
-decreases-loop-window g l = l.scale.to - l.tick
