@@ -1,10 +1,12 @@
 //! Texts in a picture.
 
 ghost use Rattle.std.specs.Prelude.{◌≡◌, Some};
-ghost use Rattle.ptk_timeline.specs.Words.{class_of, owner_words};
+ghost use Rattle.ptk_timeline_segments.specs.LookNumbers.{numbers_of_wait};
+ghost use Rattle.ptk_timeline_segments.specs.Shades.{shade_of_wait};
+ghost use Rattle.ptk_timeline.specs.Words.{class_of, condition_words, join_words, look_words, mutex_name, mutex_words, owner_words, relock_words, shade_words};
 
 use ptk_timeline_segments::{Activity, Look, Shade};
-use ptk_words::{Owner, Wait};
+use ptk_words::{ConditionNo, MutexNo, Owner, ThreadNo, Wait};
 use std::fmt;
 
 /// The class of a shade in the picture's style.
@@ -31,6 +33,8 @@ pub(crate) fn class_of(shade: Shade) -> &'static str
 pub(crate) struct Words(pub(crate) Look);
 
 impl fmt::Display for Words {
+    ghost output = { λ w. Some (look_words w.0) };
+
     fn fmt<W: fmt::Write>(&self, f: &mut fmt::Formatter<W>) -> fmt::Result {
         match self.0.activity {
             Activity::Free => f.write_str("no thread"),
@@ -48,31 +52,80 @@ impl fmt::Display for Words {
 struct WaitWords(Wait, Option<Owner>);
 
 impl fmt::Display for WaitWords {
+    ghost output = { λ w. Some (shade_words (shade_of_wait w.0) (numbers_of_wait w.0).first (numbers_of_wait w.0).second w.1) };
+
     fn fmt<W: fmt::Write>(&self, f: &mut fmt::Formatter<W>) -> fmt::Result {
         match self.0 {
             Wait::InputWait => f.write_str("blocked on the console"),
             Wait::SleepWait(tick) => write!(f, "asleep until tick {}", tick.ticks()),
-            Wait::JoinWait(thread) => write!(f, "blocked on thread {}'s end", thread.number()),
-            Wait::MutexWait(m, _) => {
-                write!(f, "blocked on mutex {}, {}", m.number(), OwnerWords(self.1))
-            }
-            Wait::ConditionWait(c, m, _) => {
-                write!(
-                    f,
-                    "blocked on condition variable {} with mutex {}",
-                    c.number(),
-                    m.number()
-                )
-            }
-            Wait::RelockWait(m, _) => {
-                write!(
-                    f,
-                    "blocked on mutex {} again, {}",
-                    m.number(),
-                    OwnerWords(self.1)
-                )
-            }
+            Wait::JoinWait(thread) => JoinWords(thread).fmt(f),
+            Wait::MutexWait(m, _) => MutexWords(m, self.1).fmt(f),
+            Wait::ConditionWait(c, m, _) => ConditionWords(c, m).fmt(f),
+            Wait::RelockWait(m, _) => RelockWords(m, self.1).fmt(f),
         }
+    }
+}
+
+/// A wait for a thread's end in words.
+#[derive(Clone, Copy)]
+struct JoinWords(ThreadNo);
+
+impl fmt::Display for JoinWords {
+    ghost output = { λ w. Some (join_words w.0) };
+
+    fn fmt<W: fmt::Write>(&self, f: &mut fmt::Formatter<W>) -> fmt::Result {
+        write!(f, "blocked on thread {}'s end", self.0.number())
+    }
+}
+
+/// A wait on a mutex in words, with its owner.
+#[derive(Clone, Copy)]
+struct MutexWords(MutexNo, Option<Owner>);
+
+impl fmt::Display for MutexWords {
+    ghost output = { λ w. Some (mutex_words w.0 w.1) };
+
+    fn fmt<W: fmt::Write>(&self, f: &mut fmt::Formatter<W>) -> fmt::Result {
+        let (m, holder) = (self.0.number(), OwnerWords(self.1));
+        write!(f, "blocked on mutex {m}, {holder}")
+    }
+}
+
+/// A wait on a condition variable in words, with the mutex that is locked again.
+#[derive(Clone, Copy)]
+struct ConditionWords(ConditionNo, MutexNo);
+
+impl fmt::Display for ConditionWords {
+    ghost output = { λ w. Some (condition_words w.0 w.1) };
+
+    fn fmt<W: fmt::Write>(&self, f: &mut fmt::Formatter<W>) -> fmt::Result {
+        let (c, mutex) = (self.0.number(), MutexName(self.1));
+        write!(f, "blocked on condition variable {c} with {mutex}")
+    }
+}
+
+/// A mutex by its number.
+#[derive(Clone, Copy)]
+struct MutexName(MutexNo);
+
+impl fmt::Display for MutexName {
+    ghost output = { λ m. Some (mutex_name m.0) };
+
+    fn fmt<W: fmt::Write>(&self, f: &mut fmt::Formatter<W>) -> fmt::Result {
+        write!(f, "mutex {}", self.0.number())
+    }
+}
+
+/// A wait on the mutex that is locked again in words, with its owner.
+#[derive(Clone, Copy)]
+struct RelockWords(MutexNo, Option<Owner>);
+
+impl fmt::Display for RelockWords {
+    ghost output = { λ w. Some (relock_words w.0 w.1) };
+
+    fn fmt<W: fmt::Write>(&self, f: &mut fmt::Formatter<W>) -> fmt::Result {
+        let (m, holder) = (self.0.number(), OwnerWords(self.1));
+        write!(f, "blocked on mutex {m} again, {holder}")
     }
 }
 
