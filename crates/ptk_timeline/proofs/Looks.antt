@@ -1,10 +1,9 @@
 -- What is seen of the numbers of threads, look by look.
-use Rattle.std.proofs.Common.{◌≡◌, ◌≢◌, ◌∙◌, ◌⊎◌, inl, inr, ℕ, zero, suc, ◌+◌, ◌-◌, ◌<◌, ◌≤◌, Bool, true, false, cond, List, [], ◌∷◌, ◌++◌, Option, Some, drop, take, get_or, length, max, min, replicate, refl, sym, ap, ap₂, subst, arith, get_or-set_other, get_or-set_same}
+use Rattle.std.proofs.Common.{◌≡◌, ◌≢◌, ◌∙◌, ◌⊎◌, inl, inr, ℕ, zero, suc, ◌+◌, ◌-◌, ◌<◌, ◌≤◌, Bool, true, false, cond, List, [], ◌∷◌, ◌++◌, Option, Some, drop, take, length, max, replicate, refl, sym, ap, ap₂, subst, arith, get_or-set_other, get_or-set_same}
 use Rattle.std.specs.Prelude.{not, ◌&&◌, slice_get, slice_index_or, slice_set}
 use Rattle.std.proofs.lemmas.Bool.{cases_lt}
 use Rattle.std.proofs.lemmas.List.{get_or_default, get_or-replicate, length-replicate, take-append-le, take_all}
 use Rattle.ptk_words.specs.declared.TheConstants.{THREAD_LIMIT}
-use Rattle.ptk_words.proofs.Lists.{AreEach}
 use Rattle.ptk_timeline_segments.specs.Activities.{activity_in}
 use Rattle.ptk_timeline_segments.specs.Shades.{shade_of}
 use Rattle.ptk_timeline_segments.specs.Told.{pc_in}

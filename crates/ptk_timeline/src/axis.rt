@@ -12,7 +12,7 @@ use std::io::Write;
 /// How many pixels there are from one number to the next at least.
 const APART: u64 = 90;
 
-/// How many digits the largest step has behind its first: all that a power of ten of 64 bits has but one.
+/// How many zeros the largest step has, which is a power of ten.
 const MOST_DIGITS: u32 = 18;
 
 /// Writes the axis above the lanes, with a line down to `end` at each number: the multiples of the step from the first
@@ -64,7 +64,7 @@ fn step_of(scale: Scale) -> u64
     round_from(scale.each().saturating_mul(APART) / column_width(scale))
 }
 
-/// The least of 1, 2 and 5 times the powers of ten that is no less than this; 10^18 where that is less.
+/// The least of 1, 2 and 5 times the powers of ten below 10^18 that is no less than this; 10^18 where none is.
 fn round_from(least: u64) -> u64
     ensures value { result ≡ round_from MOST_DIGITS least }
     ensures some { 0 < result }
