@@ -37,7 +37,7 @@ ticks_before scale (suc m) some =
     let here : min (scale.from + m * scale.each) scale.to < scale.to = some m (omega arith) in
     omega (arith, here)
 
--- as many columns as have ticks are the columns
+-- the number of columns that have ticks is the number of columns
 pub columns_counted : (scale : Scale) (n : ℕ) → start_of scale n ≡ scale.to → ((k : ℕ) → k < n → start_of scale k < scale.to) → n ≡ columns_of scale
 columns_counted scale n all some =
     let low : scale.to - scale.from ≤ n * scale.each = omega (arith, all) in
@@ -58,7 +58,7 @@ columns_few scale (suc m) some =
     let wide : m ≤ m * scale.each = le-mul_of_pos_right m scale.some in
     omega (arith, here, wide)
 
--- columns of a tick are as many as the ticks
+-- where a column is a tick, there is one for each tick
 ceil_one : (ticks : ℕ) → div_ceil ticks 1 ≡ ticks
 ceil_one ticks =
     let whole : ticks / 1 ≡ ticks = div-one ticks in
@@ -95,7 +95,7 @@ steps_apart scale single = by (scale.to - scale.from) scale.each single
 
 -- ---- places
 
--- as many columns as there may be, each as wide as it may be
+-- the most columns that there may be, each of the greatest width
 pub product_within : (count width : ℕ) → count ≤ LAST_TICK → width ≤ 24 → count * width ≤ 24 * LAST_TICK
 product_within count width few narrow =
     let small : count * width ≤ LAST_TICK * 24 = mul-le-mul few narrow in
@@ -154,7 +154,7 @@ windows_told config scale frame width product each is_frame few is_width narrow 
     let whole : product ≡ frame * width = is_product ∙ product_is frame width (omega (arith, few)) narrow in
     ap₂ (λ (p e : ℕ). nat_le 4 (p / e)) (whole ∙ ap₂ (λ (f w : ℕ). f * w) is_frame is_width) is_each
 
--- so many ticks take no more room than columns that hold them
+-- ticks take no more room than columns that hold them
 room_within : (ticks width each count : ℕ) → ticks ≤ count * each → LEFT + ticks * width / each ≤ LEFT + count * width
 room_within ticks width each count fit =
     let scaled : ticks * width ≤ count * each * width = mul-le-mul_right width fit in

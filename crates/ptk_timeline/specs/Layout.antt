@@ -34,11 +34,11 @@ plot_width scale = columns_of scale * column_width scale
 abbrev pub picture_width : Scale → ℕ
 picture_width scale = max (plot_width scale) 960 + (LEFT + 30)
 
--- where a tick begins: a column's width for as many ticks as a column has; an earlier tick is at the first, a later one at the end (own)
+-- where a tick begins: the ticks of a column take its width; an earlier tick is at the first, a later one at the end (own)
 abbrev pub place_of : Scale → ℕ → ℕ
 place_of scale tick = LEFT + (min tick scale.to - scale.from) * column_width scale / scale.each
 
--- so many pixels right of a place, as far as 64 bits hold it (own)
+-- this many pixels right of a place, as far as 64 bits hold it (own)
 abbrev pub right_of : ℕ → ℕ → ℕ
 right_of place pixels = min (place + pixels) (2 ^ 64 - 1)
 
@@ -78,7 +78,7 @@ is_shown row = list_any shows_thread row.cells.items
 abbrev pub height_within : ℕ → ℕ
 height_within height = min height (2 ^ 32 - 1)
 
--- so many pixels below a place, as far as 32 bits hold it (own)
+-- this many pixels below a place, as far as 32 bits hold it (own)
 abbrev pub below : ℕ → ℕ → ℕ
 below place pixels = height_within (place + pixels)
 

@@ -6,7 +6,7 @@ use Rattle.ptk_timeline_segments.specs.declared.scale.Scale.{Scale}
 use Rattle.ptk_timeline.specs.declared.layout.TheConstants.{TOP}
 use Rattle.ptk_timeline.specs.Layout.{place_of}
 
--- the line, over so many pixels, of a stage of the plan that begins at a tick (SVG, 9.3)
+-- the line, this many pixels long, of a stage of the plan that begins at a tick (SVG, 9.3)
 abbrev pub plan_text : Scale → ℕ → ℕ → List ℕ
 plan_text scale length tick =
     concat (codes "<path class=\"plan\" d=\"M" ∷ decimal (place_of scale tick) ∷ codes " " ∷ decimal (TOP - 4) ∷ codes "v" ∷ decimal length
