@@ -8,3 +8,6 @@ pub mod Arrived
 pub mod Rounds
 pub mod Looks
 pub mod Entries
+pub mod Drawn
+pub mod Alike
+pub mod Rowed

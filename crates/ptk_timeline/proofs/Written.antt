@@ -36,12 +36,20 @@ module _ {X : Type 0} (text : X → List ℕ) where
   written_at old now new xs i d lt before one =
       written_more old now new xs i (get_or xs i d) lt (get_or_default xs i d (get_or xs i d) lt) before one
 
--- the text of so many numbers and of one more
+-- the text of numbers from a first one on and of one more
 numbers_more : (text : ℕ → List ℕ) (first count : ℕ) → concat (map text (range_with_len first count)) ++ text (first + count) ≡ concat (map text (range_with_len first (count + 1)))
 numbers_more text first count =
     sym (ap concat (map-range_with_len_more text first count (first + count) refl)
     ∙ (concat-append (map text (range_with_len first count)) (text (first + count) ∷ [])
     ∙ ap (λ (t : List ℕ). concat (map text (range_with_len first count)) ++ t) (append-nil (text (first + count)))))
+
+-- the text of the first numbers is written, and of one more
+pub counted_more : (text : ℕ → List ℕ) (k : ℕ) (old now new : Option (List ℕ)) → Appends old now (concat (map text (range_with_len 0 k))) → Appends now new (text k)
+    → Appends old new (concat (map text (range_with_len 0 (k + 1))))
+counted_more text k old now new before one =
+    let number : k ≡ 0 + k = omega arith in
+    subst (Appends old new) (numbers_more text 0 k)
+    (Appends-trans old now new (concat (map text (range_with_len 0 k))) (text (0 + k)) before (subst (λ (n : ℕ). Appends now new (text n)) number one))
 
 -- a multiple of a step up to a tick is a number of 64 bits
 pub multiple_is : (k step to : ℕ) → to ≤ LAST_TICK → k ≤ to / step → min (k * step) (2 ^ 64 - 1) ≡ k * step

@@ -6,6 +6,7 @@ pub mod Plans
 pub mod Windows
 pub mod Marks
 pub mod Starts
+pub mod Stretches
 pub mod Rows
 pub mod Legend
 pub mod Heads

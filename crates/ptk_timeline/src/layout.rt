@@ -128,7 +128,7 @@ pub(crate) fn column_place(scale: Scale, column: usize) -> u64
 }
 
 /// Whether this is the shade of a thread.
-fn is_thread(shade: Shade) -> bool
+pub(crate) fn is_thread(shade: Shade) -> bool
     ensures { result ≡ is_thread shade }
 {
     match shade {
