@@ -11,3 +11,4 @@ pub mod Entries
 pub mod Drawn
 pub mod Alike
 pub mod Rowed
+pub mod Pictured

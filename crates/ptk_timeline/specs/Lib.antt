@@ -10,3 +10,4 @@ pub mod Stretches
 pub mod Rows
 pub mod Legend
 pub mod Heads
+pub mod Picture

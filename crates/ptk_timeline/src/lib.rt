@@ -3,17 +3,21 @@
 //! The picture of a run as SVG on any writer: a lane for each partition with its windows shaded, in it a row for each
 //! thread, and marks of what came; and where the threads of a run start, for their names (`Starts`).
 //!
-//! - Each bar is drawn over a whole bar of its row (`write_bar`, its `requires`, `IsBar`), and the windows are gone
-//!   over by `next_window`.
+//! - A picture is, byte for byte, that of a recording of the run (`picture_with`, `drawn`: `IsPictureOf`): its lanes
+//!   begin one below the other where those before them end (`AreLanes`), and in each are the windows, its head, the
+//!   marks, a row for each thread that was there at some tick (`AreRows`), and what is not the partition's (`IsLane`).
+//! - A row is cut into stretches of one look, owner and raised priority included, as long as possible on both sides:
+//!   each that has a thread is drawn as one bar (`IsRow`, `IsBar`). So are those that have something else too, and
+//!   those of one raised priority (`AreAlike`).
 //! - `picture_with` leaves the system at the picture's end (`ran`), and returns `NoTicks` only where `from` is not
 //!   before `to` (`none`), and a picture only where it is (`some`).
 //! - A tick's place is by how many ticks are before it, within the columns, and no later one is further left
 //!   (`place_of`); a column begins where its first tick does (`column_place`); lanes are one below the other
 //!   (`lanes_end`).
-//! - A thread has the name of the symbol that begins where it started, the first of the text (`Names::routine`).
-//! - A lane's head is the partition's name with what it is at the end, byte for byte (`write_head`, `lane_head`); so are
-//!   the axis, the plan's lines and the marks of a column (`write_axis`, `write_plans`, `write_column`).
-//! - Which other bytes are written is tested: the gate compares four stored pictures (`ptk_main_stored`).
+//! - A thread has the name of the symbol that begins where it started, the first of the text (`Names::routine`). Where
+//!   that is follows from what is seen of its number at every tick of the run: the pc after the decision with which a
+//!   thread has it anew (`Starts::of_run`, `starts`).
+//! - Four stored pictures are compared besides (`ptk_main_stored`).
 //!
 //! It opens in any browser, without script or network. A column of the picture is a column of `ptk_timeline_segments`,
 //! below, a rectangle is a bar of a row, and the windows are those that the plan has at these ticks, so the text grows

@@ -1,10 +1,12 @@
 //! The picture.
 
-ghost use Rattle.std.specs.Prelude.{◌≡◌, ◌≤◌, ◌<◌, IfErr, IfOk, OnOk};
+ghost use Rattle.std.specs.Prelude.{◌≡◌, ◌≤◌, ◌<◌, ◌+◌, ℕ, List, IfErr, IfOk, OnOk, length, slice_get, take};
 ghost use Rattle.std.specs.Io.KnownBytes.{Appends};
 ghost use Rattle.ptk_words.specs.declared.TheConstants.{LAST_TICK};
 ghost use Rattle.ptk_timeline_segments.specs.World.{at_tick};
 ghost use Rattle.ptk_timeline.specs.Heads.{lane_head};
+ghost use Rattle.ptk_timeline.specs.Layout.{lanes_end};
+ghost use Rattle.ptk_timeline.specs.Picture.{AreLanes, IsLane, IsLaneFrom, IsPicture, IsPictureOf, before_lanes, behind_lanes, ground, opening, style, ticks_title};
 
 use crate::axis::write_axis;
 use crate::layout::{
@@ -71,8 +73,8 @@ pub enum PictureFault {
 }
 
 /// Runs the system of a configuration, which is at no tick after `from` or `to`, to a tick of at most 2^40, and writes
-/// the picture of its ticks from `from` on, with these names of its threads. A fault where there is none of them,
-/// memory is refused or the writer fails. Of the picture's bytes no clause speaks; stored pictures are compared.
+/// the picture of its ticks from `from` on, with these names of its threads: that of a recording of the run. A fault
+/// where there is none of them, memory is refused or the writer fails.
 pub fn picture_with<W: Write>(
     alloc: Global,
     config: &Config,
@@ -88,6 +90,7 @@ pub fn picture_with<W: Write>(
     ensures some { IfOk result (λ _. from < to) }
     ensures none { IfErr result (λ fault. fault ≡ PictureFault.NoTicks → to ≤ from) }
     ensures ran { IfOk result (λ _. system.new ≡ at_tick to system.old) }
+    ensures drawn { OnOk result ((text : List ℕ) × IsPictureOf config.now system.old names.now from to text × Appends (W.contents out.old) (W.contents out.new) text) }
 {
     if to.ticks() <= from.ticks() {
         return Err(PictureFault::NoTicks);
@@ -109,60 +112,144 @@ fn write_timeline<W: Write>(
     config: &Config,
     recording: &Recording,
     names: &Names<'_, '_>,
-) -> io::Result<()> {
+) -> io::Result<()>
+    ensures { OnOk result ((text : List ℕ) × IsPicture config.now recording.now names.now text × Appends (W.contents out.old) (W.contents out.new) text) }
+{
     let scale = recording.scale();
-    let (width, height) = (picture_width(scale), picture_height(recording));
+    write_before_lanes(out, scale, picture_height(recording))?;
+    write_lanes(out, config, recording, names)?;
+    write_behind_lanes(out, config, scale, lanes_end(recording))
+}
+
+/// Writes what is drawn before the lanes: the picture's size, its title, its style and its ground, this high.
+fn write_before_lanes<W: Write>(out: &mut W, scale: Scale, height: u32) -> io::Result<()>
+    ensures { OnOk result (Appends (W.contents out.old) (W.contents out.new) (before_lanes scale height)) }
+{
+    let width = picture_width(scale);
+    write_opening(out, width, height)?;
+    write_ticks(out, scale.from(), scale.to())?;
+    write_style(out)?;
+    write_ground(out, width, height)
+}
+
+/// Writes the beginning of a picture of a width and a height.
+fn write_opening<W: Write>(out: &mut W, width: u64, height: u32) -> io::Result<()>
+    ensures { OnOk result (Appends (W.contents out.old) (W.contents out.new) (opening width height)) }
+{
     writeln!(
         out,
         "<svg xmlns=\"http://www.w3.org/2000/svg\" width=\"100%\" viewBox=\"0 0 {width} {height}\">"
-    )?;
-    let (from, to) = (scale.from(), scale.to());
-    writeln!(out, "<title>ticks {from} to {to}</title>")?;
-    out.write_all(STYLE.as_bytes())?;
+    )
+}
+
+/// Writes the title of a picture: its ticks.
+fn write_ticks<W: Write>(out: &mut W, from: u64, to: u64) -> io::Result<()>
+    ensures { OnOk result (Appends (W.contents out.old) (W.contents out.new) (ticks_title from to)) }
+{
+    writeln!(out, "<title>ticks {from} to {to}</title>")
+}
+
+/// Writes how each thing looks.
+#[tactic(auto, unfolding(crate::specs::Picture::style))]
+fn write_style<W: Write>(out: &mut W) -> io::Result<()>
+    ensures { OnOk result (Appends (W.contents out.old) (W.contents out.new) style) }
+{
+    out.write_all(STYLE.as_bytes())
+}
+
+/// Writes the ground of a picture.
+fn write_ground<W: Write>(out: &mut W, width: u64, height: u32) -> io::Result<()>
+    ensures { OnOk result (Appends (W.contents out.old) (W.contents out.new) (ground width height)) }
+{
     writeln!(
         out,
         "<rect width=\"{width}\" height=\"{height}\" fill=\"#ffffff\"/>"
-    )?;
-    write_lanes(out, config, recording, names)?;
-    write_legend(out, config, scale, lanes_end(recording))?;
+    )
+}
+
+/// Writes what is drawn behind the lanes, which end at a place: the axis and the lines of the plan, the legend, and the
+/// picture's end.
+fn write_behind_lanes<W: Write>(
+    out: &mut W,
+    config: &Config,
+    scale: Scale,
+    end: u32,
+) -> io::Result<()>
+    ensures { OnOk result (Appends (W.contents out.old) (W.contents out.new) (behind_lanes config.now scale end)) }
+{
+    write_axis(out, scale, end)?;
+    write_plans(out, config.plan(), scale, end)?;
+    write_legend(out, config, scale, end)?;
     out.write_all(b"</svg>\n")
 }
 
-/// Writes the lanes, one below the other, with the axis and the lines of the plan.
+/// Writes the lanes, one below the other.
 fn write_lanes<W: Write>(
     out: &mut W,
     config: &Config,
     recording: &Recording,
     names: &Names<'_, '_>,
-) -> io::Result<()> {
+) -> io::Result<()>
+    ensures { OnOk result ((text : List ℕ) × AreLanes config.now recording.now names.now (length config.now.sections) text
+        × Appends (W.contents out.old) (W.contents out.new) text) }
+{
     let mut top = TOP;
     for number in 0..config.parts() {
-        if let (Some(lane), Some(section), Some(status)) = (
-            recording.lanes().get(number),
-            config.sections().get(number),
-            recording.statuses().get(number),
-        ) {
-            let height = lane_height(lane);
-            let place = Place {
-                number,
-                top,
-                height,
-            };
-            write_lane(
-                out,
-                config,
-                recording.scale(),
-                lane,
-                section.name(),
-                *status,
-                names,
-                place,
-            )?;
-            top = top.saturating_add(height).saturating_add(GAP);
-        }
+        write_lane_from(out, config, recording, names, number, top)?;
+        top = next_top(recording, number, top);
     }
-    write_axis(out, recording.scale(), lanes_end(recording))?;
-    write_plans(out, config.plan(), recording.scale(), lanes_end(recording))
+    Ok(())
+}
+
+/// Where the lane behind that of a number begins, if that begins at `top`.
+fn next_top(recording: &Recording, number: usize, top: u32) -> u32
+    ensures { top ≡ lanes_end (take number recording.now.lanes.items) → result ≡ lanes_end (take (number + 1) recording.now.lanes.items) }
+{
+    match recording.lanes().get(number) {
+        Some(lane) => top.saturating_add(lane_height(lane)).saturating_add(GAP),
+        None => top,
+    }
+}
+
+/// Writes the lane of the partition of a number from `top` on, nothing where there is no such partition.
+fn write_lane_from<W: Write>(
+    out: &mut W,
+    config: &Config,
+    recording: &Recording,
+    names: &Names<'_, '_>,
+    number: usize,
+    top: u32,
+) -> io::Result<()>
+    requires { number < 8 }
+    ensures { OnOk result ((text : List ℕ) × IsLaneFrom config.now recording.now.scale names.now number top
+        (slice_get recording.now.lanes.items number) (slice_get config.now.sections number) (slice_get recording.now.statuses.items number) text
+        × Appends (W.contents out.old) (W.contents out.new) text) }
+{
+    let Some(lane) = recording.lanes().get(number) else {
+        return Ok(());
+    };
+    let Some(section) = config.sections().get(number) else {
+        return Ok(());
+    };
+    let Some(status) = recording.statuses().get(number) else {
+        return Ok(());
+    };
+    let height = lane_height(lane);
+    let place = Place {
+        number,
+        top,
+        height,
+    };
+    write_lane(
+        out,
+        config,
+        recording.scale(),
+        lane,
+        section.name(),
+        *status,
+        names,
+        place,
+    )
 }
 
 /// Writes the lane of a partition of a name and a status: its windows, its head, its marks and its rows, and over these
@@ -176,7 +263,10 @@ fn write_lane<W: Write>(
     status: PartStatus,
     names: &Names<'_, '_>,
     place: Place,
-) -> io::Result<()> {
+) -> io::Result<()>
+    ensures { OnOk result ((text : List ℕ) × IsLane config.now scale lane.now name.now status names.now place text
+        × Appends (W.contents out.old) (W.contents out.new) text) }
+{
     write_windows(out, config, scale, place)?;
     write_head(out, LEFT - 8, place.top.saturating_add(14), name, status)?;
     write_marks(out, config, scale, lane, place)?;
