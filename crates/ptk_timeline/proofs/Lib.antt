@@ -1,12 +1,10 @@
 pub mod Measures
 pub mod Written
-pub mod Routines
 pub mod GoesOn
 pub mod Spans
 pub mod Numbered
 pub mod Arrived
 pub mod Rounds
-pub mod Looks
 pub mod Entries
 pub mod Drawn
 pub mod Alike

@@ -15,13 +15,13 @@ use Rattle.ptk_timeline_segments.specs.Recordings.{AreStatusesOf, TellsOf}
 use Rattle.ptk_timeline_segments.specs.World.{World, at_tick}
 use Rattle.ptk_timeline.specs.declared.layout.Place.{Place}
 use Rattle.ptk_timeline.specs.declared.layout.TheConstants.{HEAD, LEFT, MOST_COLUMNS}
-use Rattle.ptk_timeline.specs.declared.starts.Names.{Names}
+use Rattle.ptk_timeline_starts.specs.declared.starts.Names.{Names}
 use Rattle.ptk_timeline.specs.Heads.{lane_head}
 use Rattle.ptk_timeline.specs.Layout.{below, lane_height, lanes_end, picture_height}
 use Rattle.ptk_timeline.specs.Marks.{marks_text}
 use Rattle.ptk_timeline.specs.Picture.{AreLanes, IsLane, IsLaneFrom, IsLaneOf, IsPicture, IsPictureOf, before_lanes, behind_lanes}
 use Rattle.ptk_timeline.specs.Rows.{AreRows}
-use Rattle.ptk_timeline.specs.Starts.{routine_of}
+use Rattle.ptk_timeline_starts.specs.Starts.{routine_of}
 use Rattle.ptk_timeline.specs.Windows.{all_others_text, windows_text}
 
 -- ---- a lane

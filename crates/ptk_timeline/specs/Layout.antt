@@ -1,16 +1,15 @@
 -- Where things are in a picture, in pixels from its upper left corner.
-use Rattle.std.specs.Prelude.{ℕ, ◌+◌, ◌-◌, ◌*◌, ◌/◌, ◌^◌, ◌==◌, nat_le, min, max, Bool, true, false, ◌&&◌, ◌||◌, if◌then◌else◌, List, count_by, sum_by}
+use Rattle.std.specs.Prelude.{ℕ, ◌+◌, ◌-◌, ◌*◌, ◌/◌, ◌^◌, ◌==◌, nat_le, min, max, Bool, ◌&&◌, ◌||◌, if◌then◌else◌, List, count_by, sum_by}
 use Rattle.std.specs.Int.{div_ceil}
 use Rattle.std.specs.List.{list_any}
 use Rattle.ptk_config.specs.Configuration.{Configuration}
 use Rattle.ptk_timeline_segments.specs.declared.lane.Lane.{Lane}
-use Rattle.ptk_timeline_segments.specs.declared.look.Shade.{Shade}
-use Rattle.ptk_timeline_segments.specs.declared.look.Shade.TheVariants.{Free, Running, Ready, Input, Sleep, Join, Mutex, Condition, Relock, Ended, Halted}
 use Rattle.ptk_timeline_segments.specs.declared.row.LaneRow.{LaneRow}
 use Rattle.ptk_timeline_segments.specs.declared.scale.Scale.{Scale}
 use Rattle.ptk_timeline_segments.specs.declared.tally.Cell.{Cell}
 use Rattle.ptk_timeline_segments.specs.Shades.{shade_of}
 use Rattle.ptk_timeline.specs.declared.layout.TheConstants.{GAP, HEAD, LEFT, LEGEND, ROW, TOP}
+pub use Rattle.ptk_timeline_starts.specs.Starts.{is_thread}
 
 -- ---- from the left
 
@@ -51,20 +50,6 @@ abbrev pub are_windows_wide : Configuration → Scale → Bool
 are_windows_wide config scale = nat_le 4 (config.plan.frame * column_width scale / scale.each)
 
 -- ---- from the top
-
--- the shade is that of a thread
-abbrev pub is_thread : Shade → Bool
-is_thread Free = false
-is_thread Running = true
-is_thread Ready = true
-is_thread Input = true
-is_thread Sleep = true
-is_thread Join = true
-is_thread Mutex = true
-is_thread Condition = true
-is_thread Relock = true
-is_thread Ended = true
-is_thread Halted = true
 
 -- a column has a thread at some tick: it shows one, or there was something else too (own)
 abbrev pub shows_thread : Cell → Bool

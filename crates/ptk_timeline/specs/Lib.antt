@@ -5,7 +5,6 @@ pub mod Axis
 pub mod Plans
 pub mod Windows
 pub mod Marks
-pub mod Starts
 pub mod Stretches
 pub mod Rows
 pub mod Legend

@@ -13,7 +13,7 @@ use Rattle.ptk_timeline_segments.specs.Windows.{Stage, WindowPlan}
 use Rattle.ptk_timeline_segments.specs.World.{World, at_tick}
 use Rattle.ptk_timeline.specs.declared.layout.Place.{Place}
 use Rattle.ptk_timeline.specs.declared.layout.TheConstants.{HEAD, LEFT, MOST_COLUMNS, TOP}
-use Rattle.ptk_timeline.specs.declared.starts.Names.{Names}
+use Rattle.ptk_timeline_starts.specs.declared.starts.Names.{Names}
 use Rattle.ptk_timeline.specs.Axis.{axis_lines}
 use Rattle.ptk_timeline.specs.Heads.{lane_head}
 use Rattle.ptk_timeline.specs.Layout.{below, lane_height, lanes_end, picture_height, picture_width}
@@ -21,7 +21,7 @@ use Rattle.ptk_timeline.specs.Legend.{legend_text}
 use Rattle.ptk_timeline.specs.Marks.{marks_text}
 use Rattle.ptk_timeline.specs.Plans.{stage_text}
 use Rattle.ptk_timeline.specs.Rows.{AreRows}
-use Rattle.ptk_timeline.specs.Starts.{routine_of}
+use Rattle.ptk_timeline_starts.specs.Starts.{routine_of}
 use Rattle.ptk_timeline.specs.Windows.{all_others_text, windows_text}
 
 -- ---- lanes

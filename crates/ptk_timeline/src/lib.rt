@@ -1,7 +1,7 @@
 #![tactic(auto)]
 
 //! The picture of a run as SVG on any writer: a lane for each partition with its windows shaded, in it a row for each
-//! thread, and marks of what came; and where the threads of a run start, for their names (`Starts`).
+//! thread, and marks of what came.
 //!
 //! - A picture is, byte for byte, that of a recording of the run (`picture_with`, `drawn`: `IsPictureOf`): its lanes
 //!   begin one below the other where those before them end (`AreLanes`), and in each are the windows, its head, the
@@ -14,15 +14,12 @@
 //! - A tick's place is by how many ticks are before it, within the columns, and no later one is further left
 //!   (`place_of`); a column begins where its first tick does (`column_place`); lanes are one below the other
 //!   (`lanes_end`).
-//! - A thread has the name of the symbol that begins where it started, the first of the text (`Names::routine`). Where
-//!   that is follows from what is seen of its number at every tick of the run: the pc after the decision with which a
-//!   thread has it anew (`Starts::of_run`, `starts`).
 //! - Four stored pictures are compared besides (`ptk_main_stored`).
 //!
 //! It opens in any browser, without script or network. A column of the picture is a column of `ptk_timeline_segments`,
 //! below, a rectangle is a bar of a row, and the windows are those that the plan has at these ticks, so the text grows
-//! with what changes and with the width. Drawing takes no memory; `Starts` has an entry for each thread's number. Above
-//! are `ptk_main_commands`, and of the tests `ptk_main_rows` and `ptk_main_stored`.
+//! with what changes and with the width. Drawing takes no memory. The names of threads are of
+//! `ptk_timeline_starts`. Above are `ptk_main_commands`, and of the tests `ptk_main_rows` and `ptk_main_stored`.
 
 mod axis;
 mod layout;
@@ -33,11 +30,10 @@ mod picture;
 mod plans;
 mod rows;
 mod shapes;
-mod starts;
 mod windows;
 
 pub use layout::MOST_COLUMNS;
 pub use picture::{PictureFault, picture_with};
 pub use ptk_symbols::Symbols;
 pub use ptk_timeline_segments::{Cell, Files, LaneRow, Recording, Scale, Shade, System};
-pub use starts::{Names, Starts};
+pub use ptk_timeline_starts::{Names, Starts};

@@ -6,15 +6,15 @@ ghost use Rattle.std.specs.Io.KnownBytes.{Appends};
 ghost use Rattle.ptk_timeline_segments.specs.Bars.{IsBar};
 ghost use Rattle.ptk_timeline_segments.specs.Columns.{start_of};
 ghost use Rattle.ptk_timeline.specs.Layout.{column_place};
-ghost use Rattle.ptk_timeline.specs.Starts.{routine_of};
+ghost use Rattle.ptk_timeline_starts.specs.Starts.{routine_of};
 ghost use Rattle.ptk_timeline.specs.Stretches.{AreAlike, AreDrawn, drawn_over};
 ghost use Rattle.ptk_timeline.specs.Rows.{AreRows, IsRow, bar_begin, bar_text, bar_title, columns_width, escaped, is_running, is_running_in, is_step_in, is_stepped_in, level_begin, level_number, level_text, line_text, mixed_over, mixed_text, name_text, raised_over, raised_text, routine_text, step_line, step_text, steps_text, thread_text};
 
 use crate::layout::{BAR, LEFT, ROW, are_steps_wide, column_place, is_shown, is_thread};
 use crate::names::{Words, class_of};
 use crate::shapes::{Rect, begin_rect, write_rect};
-use crate::starts::Names;
 use ptk_timeline_segments::{Cell, Lane, LaneRow, Look, Marks, Scale, Shade};
+use ptk_timeline_starts::Names;
 use ptk_words::PartId;
 use std::io;
 use std::io::Write;

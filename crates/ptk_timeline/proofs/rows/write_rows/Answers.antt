@@ -2,7 +2,7 @@ use Rattle.std.proofs.Common.{◌≡◌, ◌∙◌, ◌+◌, ◌<◌, List, leng
 use Rattle.ptk_timeline_segments.specs.declared.marks.Marks.{Marks}
 use Rattle.ptk_timeline_segments.specs.declared.row.LaneRow.{LaneRow}
 use Rattle.ptk_timeline.specs.Rows.{IsRow}
-use Rattle.ptk_timeline.specs.Starts.{routine_of}
+use Rattle.ptk_timeline_starts.specs.Starts.{routine_of}
 use Rattle.ptk_timeline.proofs.Rowed.{all_rows, no_more, no_row, one_row}
 use Rattle.ptk_timeline.proofs.rows.write_rows.Goals as goal
 use Rattle.ptk_timeline.proofs.rows.write_rows.Goals.{then-is_shown+in_ok-write_row+in_ok-write_name, else-is_shown}

@@ -1,4 +1,4 @@
-use Rattle.ptk_timeline.specs.Starts.{routine_of}
+use Rattle.ptk_timeline_starts.specs.Starts.{routine_of}
 use Rattle.ptk_timeline.proofs.Rowed.{AreRowsTo}
 use Rattle.ptk_timeline.proofs.rows.write_rows.Given as goal
 

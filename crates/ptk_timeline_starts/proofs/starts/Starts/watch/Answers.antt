@@ -1,9 +1,9 @@
 use Rattle.std.proofs.Common.{◌≡◌, ◌∙◌, ℕ, ◌+◌, ◌<◌, ◌≤◌, length, max, min, refl, sym, ap, subst, arith}
 use Rattle.ptk_timeline_segments.specs.Activities.{activity_in}
 use Rattle.ptk_timeline_segments.specs.World.{World, at_tick, but_next, state_of}
-use Rattle.ptk_timeline.specs.Starts.{AreSeenTo}
-use Rattle.ptk_timeline.proofs.Looks.{all_looked, all_stayed, goes_on, run_again}
-use Rattle.ptk_timeline.proofs.starts.Starts.watch.Goals as goal
+use Rattle.ptk_timeline_starts.specs.Starts.{AreSeenTo}
+use Rattle.ptk_timeline_starts.proofs.Looks.{all_looked, all_stayed, goes_on, run_again}
+use Rattle.ptk_timeline_starts.proofs.starts.Starts.watch.Goals as goal
 
 pub loop-tick-init : goal.loop-tick-init
 loop-tick-init c =

@@ -1,8 +1,8 @@
 use Rattle.std.proofs.Common.{◌≡◌, List, length, subst, sym, arith}
-use Rattle.ptk_timeline.specs.declared.starts.Seen.{Seen}
-use Rattle.ptk_timeline.specs.Starts.{AreLooked}
-use Rattle.ptk_timeline.proofs.Looks.{written}
-use Rattle.ptk_timeline.proofs.starts.Numbers.look.Goals as goal
+use Rattle.ptk_timeline_starts.specs.declared.starts.Seen.{Seen}
+use Rattle.ptk_timeline_starts.specs.Starts.{AreLooked}
+use Rattle.ptk_timeline_starts.proofs.Looks.{written}
+use Rattle.ptk_timeline_starts.proofs.starts.Numbers.look.Goals as goal
 
 pub returns : goal.returns
 returns c =

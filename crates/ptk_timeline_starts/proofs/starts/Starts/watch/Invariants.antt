@@ -1,7 +1,7 @@
 use Rattle.std.proofs.Common.{◌≡◌, ◌-◌, ◌≤◌, length, max, min}
 use Rattle.ptk_timeline_segments.specs.World.{at_tick}
-use Rattle.ptk_timeline.specs.Starts.{AreSeenTo}
-use Rattle.ptk_timeline.proofs.starts.Starts.watch.Given as goal
+use Rattle.ptk_timeline_starts.specs.Starts.{AreSeenTo}
+use Rattle.ptk_timeline_starts.proofs.starts.Starts.watch.Given as goal
 
 abbrev pub invariant-loop-tick : goal.invariant-loop-tick
 invariant-loop-tick l = record {

@@ -1,5 +1,5 @@
-use Rattle.ptk_timeline.proofs.Routines.{exact_here, exact_none, exact_not}
-use Rattle.ptk_timeline.proofs.starts.symbol_at.Goals as goal
+use Rattle.ptk_timeline_starts.proofs.Routines.{exact_here, exact_none, exact_not}
+use Rattle.ptk_timeline_starts.proofs.starts.symbol_at.Goals as goal
 
 pub returns-in_err-located : goal.returns-in_err-located
 returns-in_err-located c = rw c.from_residual.ensures (exact_none c.args.symbols.now c.args.address c.in_err-located.ensures)

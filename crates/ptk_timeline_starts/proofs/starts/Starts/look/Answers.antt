@@ -1,8 +1,8 @@
 use Rattle.std.proofs.Common.{◌≡◌, List, length, subst, sym, arith}
-use Rattle.ptk_timeline.specs.declared.starts.Numbers.{Numbers}
-use Rattle.ptk_timeline.specs.Starts.{AllAreLooked}
-use Rattle.ptk_timeline.proofs.Looks.{written}
-use Rattle.ptk_timeline.proofs.starts.Starts.look.Goals as goal
+use Rattle.ptk_timeline_starts.specs.declared.starts.Numbers.{Numbers}
+use Rattle.ptk_timeline_starts.specs.Starts.{AllAreLooked}
+use Rattle.ptk_timeline_starts.proofs.Looks.{written}
+use Rattle.ptk_timeline_starts.proofs.starts.Starts.look.Goals as goal
 
 pub returns : goal.returns
 returns c =

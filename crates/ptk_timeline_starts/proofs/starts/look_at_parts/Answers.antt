@@ -1,8 +1,8 @@
 use Rattle.std.proofs.Common.{◌≡◌, ℕ, ◌<◌, length, refl, subst, sym, arith}
 use Rattle.ptk_timeline_segments.proofs.Lists.{on_more}
-use Rattle.ptk_timeline.specs.declared.starts.Numbers.{Numbers}
-use Rattle.ptk_timeline.specs.Starts.{AreLooked}
-use Rattle.ptk_timeline.proofs.starts.look_at_parts.Goals as goal
+use Rattle.ptk_timeline_starts.specs.declared.starts.Numbers.{Numbers}
+use Rattle.ptk_timeline_starts.specs.Starts.{AreLooked}
+use Rattle.ptk_timeline_starts.proofs.starts.look_at_parts.Goals as goal
 
 pub loop-i-init : goal.loop-i-init
 loop-i-init c = record { before = λ place default lt below. absurd (omega (arith, below)); behind = λ place default le. refl }

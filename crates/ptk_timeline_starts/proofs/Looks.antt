@@ -8,11 +8,10 @@ use Rattle.ptk_timeline_segments.specs.Activities.{activity_in}
 use Rattle.ptk_timeline_segments.specs.Shades.{shade_of}
 use Rattle.ptk_timeline_segments.specs.Told.{pc_in}
 use Rattle.ptk_timeline_segments.specs.World.{World, at_tick, but_next, state_of}
-use Rattle.ptk_timeline.specs.declared.starts.Numbers.{Numbers}
-use Rattle.ptk_timeline.specs.declared.starts.Seen.{Seen}
-use Rattle.ptk_timeline.specs.declared.starts.Starts.{Starts}
-use Rattle.ptk_timeline.specs.Layout.{is_thread}
-use Rattle.ptk_timeline.specs.Starts.{AllAreLooked, AreLooked, AreSeenTo, has_thread, no_thread, seen_after, seen_over, seen_to, start_of}
+use Rattle.ptk_timeline_starts.specs.declared.starts.Numbers.{Numbers}
+use Rattle.ptk_timeline_starts.specs.declared.starts.Seen.{Seen}
+use Rattle.ptk_timeline_starts.specs.declared.starts.Starts.{Starts}
+use Rattle.ptk_timeline_starts.specs.Starts.{is_thread, AllAreLooked, AreLooked, AreSeenTo, has_thread, no_thread, seen_after, seen_over, seen_to, start_of}
 
 -- ---- the numbers of a partition, one after the other
 

@@ -1,6 +1,6 @@
 use Rattle.std.proofs.Common.{arith}
-use Rattle.ptk_timeline.proofs.Looks.{none_looked, one_looked}
-use Rattle.ptk_timeline.proofs.starts.look_at_numbers.Goals as goal
+use Rattle.ptk_timeline_starts.proofs.Looks.{none_looked, one_looked}
+use Rattle.ptk_timeline_starts.proofs.starts.look_at_numbers.Goals as goal
 
 pub loop-place-init : goal.loop-place-init
 loop-place-init c = none_looked c.args.system.now c.args.p c.args.seen.now

@@ -5,8 +5,7 @@ ghost use Rattle.ptk_words.specs.declared.TheConstants.{LAST_TICK, THREAD_LIMIT}
 ghost use Rattle.ptk_symbols.specs.Tables.{exact};
 ghost use Rattle.ptk_timeline_segments.specs.Shades.{shade_of};
 ghost use Rattle.ptk_timeline_segments.specs.World.{at_tick};
-ghost use Rattle.ptk_timeline.specs.Layout.{is_thread};
-ghost use Rattle.ptk_timeline.specs.Starts.{AllAreLooked, AreLooked, AreSeenTo, no_thread, routine_of, seen_after, seen_to, start_of};
+ghost use Rattle.ptk_timeline_starts.specs.Starts.{AllAreLooked, AreLooked, AreSeenTo, is_thread, no_thread, routine_of, seen_after, seen_to, start_of};
 
 use ptk_symbols::{Located, Symbols};
 use ptk_timeline_segments::{Activity, System};
@@ -199,7 +198,7 @@ pub struct Names<'a, 's> {
 impl<'s> Names<'_, 's> {
     /// The symbol that begins where the last thread of a number of a partition started, of those that do the first of
     /// the text. None where none does.
-    pub(crate) fn routine(&self, p: PartId, number: usize) -> Option<Located<'s>>
+    pub fn routine(&self, p: PartId, number: usize) -> Option<Located<'s>>
         ensures { option_map (λ n. (n.name.now, n.distance)) result ≡ routine_of self.now p number }
     {
         symbol_at(self.symbols, self.starts.start_of(p, number)?)

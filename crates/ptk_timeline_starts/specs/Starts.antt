@@ -1,16 +1,31 @@
 -- Where the threads of a run start, and the names of the routines there.
-use Rattle.std.specs.Prelude.{◌≡◌, ℕ, zero, suc, ◌+◌, ◌-◌, ◌<◌, Bool, false, not, ◌&&◌, if◌then◌else◌, List, Option, None, option_and_then, length, slice_get, slice_index_or}
+use Rattle.std.specs.Prelude.{◌≡◌, ℕ, zero, suc, ◌+◌, ◌-◌, ◌<◌, Bool, true, false, not, ◌&&◌, if◌then◌else◌, List, Option, None, option_and_then, length, slice_get, slice_index_or}
 use Rattle.ptk_words.specs.declared.TheConstants.{THREAD_LIMIT}
 use Rattle.ptk_symbols.specs.Tables.{exact}
+use Rattle.ptk_timeline_segments.specs.declared.look.Shade.{Shade}
+use Rattle.ptk_timeline_segments.specs.declared.look.Shade.TheVariants.{Free, Running, Ready, Input, Sleep, Join, Mutex, Condition, Relock, Ended, Halted}
 use Rattle.ptk_timeline_segments.specs.Activities.{activity_in}
 use Rattle.ptk_timeline_segments.specs.Shades.{shade_of}
 use Rattle.ptk_timeline_segments.specs.Told.{pc_in}
 use Rattle.ptk_timeline_segments.specs.World.{World, at_tick, state_of}
-use Rattle.ptk_timeline.specs.declared.starts.Names.{Names}
-use Rattle.ptk_timeline.specs.declared.starts.Numbers.{Numbers}
-use Rattle.ptk_timeline.specs.declared.starts.Seen.{Seen}
-use Rattle.ptk_timeline.specs.declared.starts.Starts.{Starts}
-use Rattle.ptk_timeline.specs.Layout.{is_thread}
+use Rattle.ptk_timeline_starts.specs.declared.starts.Names.{Names}
+use Rattle.ptk_timeline_starts.specs.declared.starts.Numbers.{Numbers}
+use Rattle.ptk_timeline_starts.specs.declared.starts.Seen.{Seen}
+use Rattle.ptk_timeline_starts.specs.declared.starts.Starts.{Starts}
+
+-- the shade is that of a thread
+abbrev pub is_thread : Shade → Bool
+is_thread Free = false
+is_thread Running = true
+is_thread Ready = true
+is_thread Input = true
+is_thread Sleep = true
+is_thread Join = true
+is_thread Mutex = true
+is_thread Condition = true
+is_thread Relock = true
+is_thread Ended = true
+is_thread Halted = true
 
 -- ---- what is seen of a number
 

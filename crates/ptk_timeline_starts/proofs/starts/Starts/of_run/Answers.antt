@@ -1,10 +1,10 @@
 use Rattle.std.proofs.Common.{◌≡◌, [], ◌∷◌, ◌++◌, length, max, replicate, sym, ap, subst, arith, length-append}
 use Rattle.ptk_words.specs.declared.TheConstants.{THREAD_LIMIT}
 use Rattle.ptk_words.proofs.Lists.{AreEach, each_more}
-use Rattle.ptk_timeline.specs.declared.starts.Numbers.{Numbers}
-use Rattle.ptk_timeline.specs.Starts.{no_thread}
-use Rattle.ptk_timeline.proofs.Looks.{first_looked, start_told}
-use Rattle.ptk_timeline.proofs.starts.Starts.of_run.Goals as goal
+use Rattle.ptk_timeline_starts.specs.declared.starts.Numbers.{Numbers}
+use Rattle.ptk_timeline_starts.specs.Starts.{no_thread}
+use Rattle.ptk_timeline_starts.proofs.Looks.{first_looked, start_told}
+use Rattle.ptk_timeline_starts.proofs.starts.Starts.of_run.Goals as goal
 
 pub loop-part-preserved : goal.loop-part-preserved
 loop-part-preserved c =
