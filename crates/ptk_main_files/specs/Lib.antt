@@ -1,7 +1,10 @@
 pub mod Traces
 pub mod Outcomes
+pub mod Statuses
+pub mod ProgressLine
 pub use Rattle.ptk_main_answers.specs.Parts
 pub use Rattle.ptk_main_answers.specs.Refusals
 pub use Rattle.ptk_main_tools.specs.Reading
 pub use Rattle.ptk_main_tools.specs.Usage
 pub use Rattle.ptk_main_tools.specs.NamedFiles
+pub use Rattle.ptk_main_runs.specs.World

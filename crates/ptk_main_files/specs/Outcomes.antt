@@ -1,9 +1,14 @@
 -- What comes of a request over a configuration and the images that were read of it.
-use Rattle.std.specs.Prelude.{◌≡◌, ◌≢◌, ◌⊎◌, ◌↔◌, ℕ, List, Option, Some, None, IsOkAnd, codes}
+use Rattle.std.specs.Prelude.{◌≡◌, ◌≢◌, ◌⊎◌, ◌↔◌, ◌++◌, ℕ, Bool, true, false, List, [], Option, Some, None, IsOkAnd, codes, is_some}
 use Rattle.std.specs.Option.{option_or}
 use Rattle.std.specs.Borrow.{Bor}
-use Rattle.ptk_config.specs.Configuration.{Configuration, configuration_in}
+use Rattle.std.specs.Io.KnownBytes.{Appends}
+use Rattle.ptk_words.specs.Names.{newline}
+use Rattle.ptk_config.specs.Configuration.{Configuration}
 use Rattle.ptk_config.specs.Sections.{Section}
+use Rattle.ptk_config_places.specs.Refusals.{refusal_of, text_walk}
+use Rattle.ptk_config_explain.specs.Explained.{IsExplained}
+use Rattle.ptk_main_line.specs.declared.requests.Format.TheVariants as form
 use Rattle.ptk_main_line.specs.declared.requests.ImpactOptions.{ImpactOptions}
 use Rattle.ptk_main_line.specs.declared.requests.RunOptions.{RunOptions}
 use Rattle.ptk_main_line.specs.declared.requests.TraceOptions.{TraceOptions}
@@ -14,13 +19,19 @@ use Rattle.ptk_main_faults.specs.declared.fault.Fault.TheVariants.{NotText, Writ
 use Rattle.ptk_main_faults.specs.declared.status.ExitStatus.TheVariants.{Unexpected}
 use Rattle.ptk_main_tools.specs.NamedFiles.{NamedFile}
 use Rattle.ptk_main_tools.specs.Reading.{AreImagesOf, IsImagesFault, IsReadFault, IsSymbolsFileFault}
+use Rattle.ptk_main_runs.specs.World.{world_at}
+use Rattle.ptk_main_answers.specs.Answers.{ok_line, trace_of}
+use Rattle.ptk_main_answers.specs.Documents.{check_text}
+use Rattle.ptk_main_answers.specs.Expectations.{IsFailed, IsPassed}
 use Rattle.ptk_main_answers.specs.HostFaults.{IsHostFault}
 use Rattle.ptk_main_answers.specs.Parts.{part_named}
 use Rattle.ptk_main_answers.specs.Refusals.{IsFaultOf, missing_image, refused_image, refused_trace}
+use Rattle.ptk_main_answers.specs.declared.run.RunQuestion.{RunQuestion}
 use Rattle.ptk_impact_answers.specs.Counts.{IsClear}
 use Rattle.ptk_impact_answers.specs.Refusals.{refusal}
 use Rattle.ptk_impact_answers.specs.Renaming.{renames_of}
 use Rattle.ptk_impact_answers.specs.SameRuns.{AreSameRuns}
+use Rattle.ptk_impact_answers.specs.Written.{PutsAnswer}
 use Rattle.ptk_impact_answers.specs.declared.answer.Question.{Question}
 use Rattle.ptk_impact_answers.specs.declared.release.Release.{Release}
 use Rattle.ptk_impact_answers.specs.declared.tally.Tally.{Tally}
@@ -49,17 +60,34 @@ check_refusal config files = option_or (missing_image config files) (refused_ima
 abbrev pub IsSound : Configuration → Type 0
 IsSound config = IsAccepted config.sections (check_refusal config)
 
--- the text states a configuration that is sound (own)
-abbrev pub StatesSound : List ℕ → Type 0
-StatesSound bytes = IsOkAnd (configuration_in bytes) IsSound
-
 -- the explanation of a text is no text (own)
 abbrev pub IsNoExplanation : Fault → Type 0
 IsNoExplanation fault = told fault ≡ NotText (text (codes "the explanation"))
 
+-- what is asked for beside the answer of a check is not written (own)
+abbrev pub IsUnsaid : Fault → Type 0
+IsUnsaid fault = IsNoExplanation fault ⊎ IsHostFault fault
+
 -- it is of the host, or the refusal of a check (own)
 abbrev pub IsCheckFault : Configuration → Fault → Type 0
 IsCheckFault config fault = IsHostFault fault ⊎ IsRefused config.sections (missing_image config) (check_refusal config) fault
+
+-- the explanation of a text with these files is written (own)
+abbrev pub PutsExplanation : List ℕ → List NamedFile → Option (List ℕ) → Option (List ℕ) → Type 0
+PutsExplanation bytes files old new = IsExplained files bytes (refusal_of (text_walk bytes)) old new
+
+-- the line of a check is written, on request behind the explanation (own)
+abbrev pub PutsCheck : Bool → List ℕ → List NamedFile → Option (List ℕ) → Option (List ℕ) → Type 0
+PutsCheck false bytes files old new = Appends old new ok_line
+PutsCheck true bytes files old new = (said : Option (List ℕ)) × PutsExplanation bytes files old said × Appends said new ok_line
+
+-- the words are the explanation of a text with these files (own)
+abbrev pub IsExplanation : List ℕ → List NamedFile → List ℕ → Type 0
+IsExplanation bytes files words = PutsExplanation bytes files (Some []) (Some words)
+
+-- the JSON object of a check with this line of a fault is written, with the explanation in it, and a newline (own)
+abbrev pub PutsObject : Option (List ℕ) → List ℕ → List NamedFile → Option (List ℕ) → Option (List ℕ) → Type 0
+PutsObject line bytes files old new = (words : List ℕ) × IsExplanation bytes files words × Appends old new (check_text line words ++ newline)
 
 -- ---- a run
 
@@ -68,21 +96,40 @@ abbrev pub IsNamedReadFault : Option (Bor (List ℕ)) → Fault → Type 0
 IsNamedReadFault None fault = ⊥
 IsNamedReadFault (Some name) fault = IsReadFault name fault
 
--- the configuration has all its images (own)
-abbrev pub IsWhole : Configuration → Type 0
-IsWhole config = IsAccepted config.sections (missing_image config)
+-- what is asked of a run, with these bytes as the expected report (own)
+abbrev pub run_question : RunOptions → Option (Bor (List ℕ)) → RunQuestion
+run_question options expected = record { ticks = options.run.ticks; until_halted = options.until_halted; format = options.format; expected = expected; fail_on = options.fail_on }
+
+-- with these images a run has what is asked of it where it ends, with an expected report where a file of one is named (own)
+pub record IsRunOf (options : RunOptions) (config : Configuration) (old new : Option (List ℕ)) (files : List NamedFile) : Type 0 where
+  pub whole : missing_image config files ≡ None
+  pub expected : Option (Bor (List ℕ))
+  pub named : is_some expected ≡ is_some options.expect
+  pub end : ℕ
+  pub passed : IsPassed (run_question options expected) (world_at config files end) old new
 
 -- the run was not as expected, by its report or by a partition (own)
 abbrev pub IsUnexpected : Fault → Type 0
 IsUnexpected fault = status_of fault ≡ Unexpected
 
+-- with these images a run has not what is asked of it where it ends, and the fault says why (own)
+pub record IsUnlikeRun (options : RunOptions) (config : Configuration) (old new : Option (List ℕ)) (fault : Fault) (files : List NamedFile) : Type 0 where
+  pub whole : missing_image config files ≡ None
+  pub expected : Option (Bor (List ℕ))
+  pub named : is_some expected ≡ is_some options.expect
+  pub end : ℕ
+  pub failed : IsFailed (run_question options expected) (world_at config files end) old new fault
+  pub status : IsUnexpected fault
+
 -- a run's fault with these files: of the host, the first missing image, or where none is missing that it was not as expected (own)
-abbrev pub IsRunFaultWith : Configuration → Fault → List NamedFile → Type 0
-IsRunFaultWith config fault files = IsHostFault fault ⊎ (IsFaultOf (missing_image config files) (missing_image config files) fault ⊎ ((missing_image config files ≡ None) × IsUnexpected fault))
+abbrev pub IsRunFaultWith : RunOptions → Configuration → Option (List ℕ) → Option (List ℕ) → Fault → List NamedFile → Type 0
+IsRunFaultWith options config old new fault files =
+    IsHostFault fault ⊎ (IsFaultOf (missing_image config files) (missing_image config files) fault ⊎ IsUnlikeRun options config old new fault files)
 
 -- the expected report or an image is not read, or it is the fault of a run with the images that were (own)
-abbrev pub IsRunFault : RunOptions → Configuration → Fault → Type 0
-IsRunFault options config fault = IsNamedReadFault options.expect fault ⊎ (IsImagesFault config.sections fault ⊎ WithImages config.sections (IsRunFaultWith config fault))
+abbrev pub IsRunFault : RunOptions → Configuration → Option (List ℕ) → Option (List ℕ) → Fault → Type 0
+IsRunFault options config old new fault =
+    IsNamedReadFault options.expect fault ⊎ (IsImagesFault config.sections fault ⊎ WithImages config.sections (IsRunFaultWith options config old new fault))
 
 -- ---- a trace
 
@@ -93,6 +140,16 @@ partition_refusal name config files = refused_trace (part_named config name) con
 -- the configuration has the partition and all its images (own)
 abbrev pub IsTraced : TraceOptions → Configuration → Type 0
 IsTraced options config = IsAccepted config.sections (partition_refusal options.partition.now config)
+
+-- the trace of the partition after the ticks that are asked for is written, where it is not asked for in words (own)
+abbrev pub PutsTrace : TraceOptions → Configuration → List NamedFile → Option (List ℕ) → Option (List ℕ) → Type 0
+PutsTrace options config files old new =
+    options.decode ≡ false → Appends old new (trace_of (part_named config options.partition.now) (world_at config files options.run.ticks))
+
+-- with these images the configuration has the partition and all its images, and the trace is written (own)
+pub record IsTraceOf (options : TraceOptions) (config : Configuration) (old new : Option (List ℕ)) (files : List NamedFile) : Type 0 where
+  pub known : partition_refusal options.partition.now config files ≡ None
+  pub written : PutsTrace options config files old new
 
 -- the symbols are not read; or it is the refusal of a trace (own)
 abbrev pub IsTraceFault : TraceOptions → Configuration → Fault → Type 0
@@ -112,9 +169,10 @@ WithReleases old new P = (before : Release) × (after : Release) × IsReleaseOf 
 abbrev pub question_of : ImpactOptions → Question
 question_of options = record { partition = options.partition; rename = options.rename }
 
--- the counts are clear if and only if the partitions that are asked for are the same runs (own)
-abbrev pub AreCounts : ImpactOptions → Tally → Release → Release → Type 0
-AreCounts options tally before after = IsOkAnd (renames_of options.rename) (λ renames. IsClear tally ↔ AreSameRuns renames options.partition before after)
+-- the counts are clear if and only if the partitions that are asked for are the same runs, and as JSON they are written with what stands between them (own)
+pub record IsComparison (options : ImpactOptions) (tally : Tally) (old new : Option (List ℕ)) (before after : Release) : Type 0 where
+  pub same : IsOkAnd (renames_of options.rename) (λ renames. IsClear tally ↔ AreSameRuns renames options.partition before after)
+  pub json : options.format ≡ form.Json → IsOkAnd (renames_of options.rename) (λ renames. PutsAnswer renames options.partition before after tally old new)
 
 -- a failed write is said only where nothing is refused, and any other fault but out of memory is the refusal's (own)
 pub record IsCountFault (options : ImpactOptions) (fault : Fault) (before after : Release) : Type 0 where
@@ -128,3 +186,8 @@ IsImpactFault options old new fault = IsImagesFault old.sections fault ⊎ (IsIm
 -- the partitions that are asked for are the same runs (own)
 abbrev pub IsSameRun : ImpactOptions → Configuration → Configuration → Type 0
 IsSameRun options old new = WithReleases old new (λ before after. IsOkAnd (renames_of options.rename) (λ renames. AreSameRuns renames options.partition before after))
+
+-- not all partitions that are asked for are the same runs (own)
+abbrev pub IsOtherRun : ImpactOptions → Configuration → Configuration → Type 0
+IsOtherRun options old new =
+    WithReleases old new (λ before after. IsOkAnd (renames_of options.rename) (λ renames. ¬ AreSameRuns renames options.partition before after))

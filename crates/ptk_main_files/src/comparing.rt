@@ -1,19 +1,22 @@
 //! `impact`: what a new configuration can change.
 
 ghost use Rattle.std.specs.Prelude.{◌≡◌, ◌↔◌, ◌⊎◌, IfErr, IfOk};
-ghost use Rattle.ptk_main_faults.specs.Statuses.{status_number};
-ghost use Rattle.ptk_main_faults.specs.declared.status.ExitStatus.TheVariants.{Done};
 ghost use Rattle.ptk_impact_answers.specs.Counts.{IsClear};
-ghost use Rattle.ptk_main_files.specs.Outcomes.{AreCounts, IsCountFault, IsImpactFault, IsSameRun, WithReleases};
+ghost use Rattle.ptk_main_files.specs.Outcomes.{IsComparison, IsCountFault, IsImpactFault, WithReleases};
+ghost use Rattle.ptk_main_files.specs.Statuses.{IsConfigStatus, IsImpactEnd, IsImpactStatus};
 
 use ptk_config::Config;
 use ptk_impact_answers::{Question, Release, Tally, impact_json_with, impact_with};
 use ptk_main_faults::{ExitStatus, Fault};
 use ptk_main_line::{Format, ImpactOptions};
 use ptk_main_tools::{config_in, images_of, tell};
+use std::alloc::Global;
+use std::io::Write;
 
 /// What stands between the configurations in two files, on standard output, and the number of the status.
-pub fn impact(rt: &HostRuntime, options: ImpactOptions<'_>) -> u8 {
+pub fn impact(rt: &HostRuntime, options: ImpactOptions<'_>) -> u8
+    ensures { IsImpactEnd options.entry result }
+{
     match config_in(rt, options.old) {
         Ok(config) => impact_from(rt, &config, options),
         Err(fault) => tell(rt, &fault),
@@ -21,7 +24,9 @@ pub fn impact(rt: &HostRuntime, options: ImpactOptions<'_>) -> u8 {
 }
 
 // What stands between a configuration and the one in a file.
-fn impact_from(rt: &HostRuntime, old: &Config, options: ImpactOptions<'_>) -> u8 {
+fn impact_from(rt: &HostRuntime, old: &Config, options: ImpactOptions<'_>) -> u8
+    ensures { IsConfigStatus options.entry.new (IsImpactStatus options.entry old.now) result }
+{
     match config_in(rt, options.new) {
         Ok(config) => impact_between(rt, old, &config, options),
         Err(fault) => tell(rt, &fault),
@@ -30,22 +35,23 @@ fn impact_from(rt: &HostRuntime, old: &Config, options: ImpactOptions<'_>) -> u8
 
 // What stands between two configurations.
 fn impact_between(rt: &HostRuntime, old: &Config, new: &Config, options: ImpactOptions<'_>) -> u8
-    ensures { result ≡ status_number Done → IsSameRun options.entry old.now new.now }
+    ensures { IsImpactStatus options.entry old.now new.now result }
 {
-    match put_impact(rt, old, new, options) {
+    match put_impact(rt, old, new, options, &mut rt.stdout()) {
         Ok(tally) => status_of_tally(&tally).number(),
         Err(fault) => tell(rt, &fault),
     }
 }
 
-// What stands between two configurations, with the images read from their files.
-fn put_impact<'a>(
+// Writes what stands between two configurations, with the images read from their files.
+fn put_impact<'a, W: Write>(
     rt: &HostRuntime,
     old: &'a Config,
     new: &'a Config,
     options: ImpactOptions<'a>,
+    out: &mut W,
 ) -> Result<Tally, Fault<'a>>
-    ensures counted { IfOk result (λ tally. WithReleases old.now new.now (AreCounts options.entry tally)) }
+    ensures counted { IfOk result (λ tally. WithReleases old.now new.now (IsComparison options.entry tally (W.contents out.old) (W.contents out.new))) }
     ensures failed { IfErr result (IsImpactFault options.entry old.now new.now) }
 {
     let old_files = images_of(rt, old, options.root)?;
@@ -58,27 +64,27 @@ fn put_impact<'a>(
         config: new,
         files: &new_files,
     };
-    compare(rt, before, after, options)
+    compare(rt.alloc(), before, after, options, out)
 }
 
-// What stands between two configurations with their images, in the form that is asked for, on standard output.
-fn compare<'a>(
-    rt: &HostRuntime,
+// Writes what stands between two configurations with their images, in the form that is asked for.
+fn compare<'a, W: Write>(
+    alloc: Global,
     before: Release<'a, '_>,
     after: Release<'a, '_>,
     options: ImpactOptions<'a>,
+    out: &mut W,
 ) -> Result<Tally, Fault<'a>>
-    ensures counted { IfOk result (λ tally. AreCounts options.entry tally before.entry after.entry) }
+    ensures counted { IfOk result (λ tally. IsComparison options.entry tally (W.contents out.old) (W.contents out.new) before.entry after.entry) }
     ensures failed { IfErr result (λ fault. IsCountFault options.entry fault before.entry after.entry) }
 {
     let question = Question {
         partition: options.partition,
         rename: options.rename,
     };
-    let out = &mut rt.stdout();
     match options.format {
-        Format::Text => impact_with(rt.alloc(), before, after, question, out),
-        Format::Json => impact_json_with(rt.alloc(), before, after, question, out),
+        Format::Text => impact_with(alloc, before, after, question, out),
+        Format::Json => impact_json_with(alloc, before, after, question, out),
     }
 }
 

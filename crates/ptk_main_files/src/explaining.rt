@@ -1,12 +1,16 @@
-//! Where and why a configuration is refused.
+//! The explanation of a configuration, among it where and why it is refused.
 
-ghost use Rattle.std.specs.Prelude.{◌≡◌};
+ghost use Rattle.std.specs.Prelude.{◌≡◌, ◌≢◌, IfErr, OnOk};
 ghost use Rattle.ptk_main_faults.specs.Lines.{status_of};
 ghost use Rattle.ptk_main_faults.specs.Statuses.{status_number};
+ghost use Rattle.ptk_main_answers.specs.HostFaults.{IsHostFault};
+ghost use Rattle.ptk_main_files.specs.Outcomes.{PutsExplanation};
 
 use ptk_main_answers::{Files, explain_with};
 use ptk_main_faults::Fault;
 use ptk_main_tools::tell;
+use std::alloc::Global;
+use std::io::Write;
 
 /// The status of a refused configuration, whose line goes to standard error, and behind it on request where and why.
 /// Out of memory says nothing of the text, and comes alone.
@@ -16,7 +20,25 @@ pub(crate) fn refused(rt: &HostRuntime, text: &str, explain: bool, fault: &Fault
     let status = tell(rt, fault);
     if explain && *fault != Fault::NoMemory {
         let files = Files::new(rt.alloc());
-        let _said = explain_with(rt.alloc(), text, &files, &mut rt.stderr());
+        let _said = put_explained(rt.alloc(), text, &files, &mut rt.stderr());
     }
     status
+}
+
+/// Writes the explanation of a text with these files: where and why it is refused, or what its configuration has with
+/// its images.
+pub(crate) fn put_explained<W: Write>(
+    alloc: Global,
+    text: &str,
+    files: &Files,
+    out: &mut W,
+) -> Result<(), Fault<'static>>
+    ensures written { OnOk result (PutsExplanation text.now files.now (W.contents out.old) (W.contents out.new)) }
+    ensures silent { IfErr result (λ fault. fault ≢ Fault.WriteFailed → out.new ≡ out.old) }
+    ensures failed { IfErr result IsHostFault }
+{
+    match explain_with(alloc, text, files, out) {
+        Ok(_) => Ok(()),
+        Err(fault) => Err(fault),
+    }
 }

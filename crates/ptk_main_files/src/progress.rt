@@ -1,9 +1,12 @@
 //! The progress of a long run, on a terminal.
 
-ghost use Rattle.std.specs.Prelude.{◌≡◌, ◌≤◌, None, IsTrue};
+ghost use Rattle.std.specs.Prelude.{◌≡◌, ◌≤◌, None, IsTrue, OnOk};
+ghost use Rattle.std.specs.Io.KnownBytes.{Appends};
+ghost use Rattle.ptk_main_files.specs.ProgressLine.{progress_text, quotient};
 
 use ptk_main_answers::Watch;
 use ptk_words::Tick;
+use std::io;
 use std::io::{IsTerminal, Write};
 use std::time::Instant;
 
@@ -57,17 +60,28 @@ impl Watch for Progress<'_> {
         };
         if seconds >= self.next {
             self.next = seconds.saturating_add(1);
-            put_progress(&mut self.rt.stderr(), tick.ticks(), last.ticks(), seconds);
+            let out = &mut self.rt.stderr();
+            let _shown = put_progress(out, tick.ticks(), last.ticks(), seconds);
         }
     }
 }
 
-// Writes over the line that was shown before: the ticks, those a second, and how many seconds are left at that rate.
-fn put_progress<W: Write>(out: &mut W, tick: u64, last: u64, seconds: u64) {
-    let rate = tick.checked_div(seconds).unwrap_or(0);
-    let left = last.saturating_sub(tick).checked_div(rate).unwrap_or(0);
-    let _shown = write!(
+// Writes over the line that was shown before: the ticks, those a second, and how many seconds are left at that rate. An
+// error where the writer fails.
+fn put_progress<W: Write>(out: &mut W, tick: u64, last: u64, seconds: u64) -> io::Result<()>
+    ensures { OnOk result (Appends (W.contents out.old) (W.contents out.new) (progress_text tick last seconds)) }
+{
+    let rate = quotient(tick, seconds);
+    let left = quotient(last.saturating_sub(tick), rate);
+    write!(
         out,
         "\rptk: tick {tick} of {last}, {rate} a second, {left} s left   "
-    );
+    )
+}
+
+// A quotient, 0 where nothing is there to divide by.
+fn quotient(number: u64, by: u64) -> u64
+    ensures { result ≡ quotient number by }
+{
+    number.checked_div(by).unwrap_or(0)
 }

@@ -1,11 +1,9 @@
 //! `run`: the report of a run of the configuration in a file.
 
-ghost use Rattle.std.specs.Prelude.{◌≡◌, ◌≤◌, IfErr, IfOk, IsOkAnd, OnOk, is_some};
+ghost use Rattle.std.specs.Prelude.{◌≡◌, ◌≤◌, IfErr, IfOk, OnOk, is_some};
 ghost use Rattle.ptk_words.specs.declared.TheConstants.{LAST_TICK};
-ghost use Rattle.ptk_config.specs.Configuration.{configuration_in};
-ghost use Rattle.ptk_main_faults.specs.Statuses.{status_number};
-ghost use Rattle.ptk_main_faults.specs.declared.status.ExitStatus.TheVariants.{Done};
-ghost use Rattle.ptk_main_files.specs.Outcomes.{IsNamedReadFault, IsRunFault, IsWhole};
+ghost use Rattle.ptk_main_files.specs.Outcomes.{IsNamedReadFault, IsRunFault, IsRunOf, WithImages, run_question};
+ghost use Rattle.ptk_main_files.specs.Statuses.{IsRunEnd, IsRunStatus, IsStatedStatus};
 
 use crate::explaining::refused;
 use crate::progress::Progress;
@@ -15,10 +13,12 @@ use ptk_main_faults::Fault;
 use ptk_main_line::RunOptions;
 use ptk_main_tools::{bytes_in, config_of, end, images_of, tell, text_in};
 use ptk_words::Tick;
+use std::io::Write;
 
 /// The report of a run, and whether it is as expected.
 pub fn run(rt: &HostRuntime, options: RunOptions<'_>) -> u8
     requires { options.run.ticks ≤ LAST_TICK }
+    ensures { IsRunEnd options.entry result }
 {
     match text_in(rt, options.run.file) {
         Ok(text) => run_text(rt, text.as_str(), options),
@@ -29,44 +29,45 @@ pub fn run(rt: &HostRuntime, options: RunOptions<'_>) -> u8
 // The report of a run of the configuration that a text states.
 fn run_text(rt: &HostRuntime, text: &str, options: RunOptions<'_>) -> u8
     requires { options.run.ticks ≤ LAST_TICK }
-    ensures { result ≡ status_number Done → IsOkAnd (configuration_in text.now) IsWhole }
+    ensures { IsStatedStatus (IsRunStatus options.entry) text.now result }
 {
     match config_of(rt, text) {
-        Ok(config) => end(rt, run_config(rt, &config, options)),
+        Ok(config) => end(rt, run_config(rt, &config, options, &mut rt.stdout())),
         Err(fault) => refused(rt, text, options.explain, &fault),
     }
 }
 
-// The report of a run of a configuration, on standard output.
-fn run_config<'a>(
+// Writes the report of a run of a configuration.
+fn run_config<'a, W: Write>(
     rt: &HostRuntime,
     config: &'a Config,
     options: RunOptions<'a>,
+    out: &mut W,
 ) -> Result<(), Fault<'a>>
     requires { options.run.ticks ≤ LAST_TICK }
-    ensures whole { OnOk result (IsWhole config.now) }
-    ensures failed { IfErr result (IsRunFault options.entry config.now) }
+    ensures passed { OnOk result (WithImages config.now.sections (IsRunOf options.entry config.now (W.contents out.old) (W.contents out.new))) }
+    ensures failed { IfErr result (IsRunFault options.entry config.now (W.contents out.old) (W.contents out.new)) }
 {
     let expected = expected_bytes(rt, options.expect)?;
     let files = images_of(rt, config, options.run.root)?;
-    let question = RunQuestion {
+    let question = run_question(options, expected.as_deref());
+    let mut progress = Progress::begin(rt, options.quiet);
+    let outcome = run_answer(rt.alloc(), config, &files, &question, &mut progress, out);
+    progress.finish();
+    outcome
+}
+
+// What is asked of a run, with these bytes as the expected report.
+fn run_question<'q>(options: RunOptions<'_>, expected: Option<&'q [u8]>) -> RunQuestion<'q>
+    ensures { result ≡ run_question options.entry expected.entry }
+{
+    RunQuestion {
         ticks: Tick::new(options.run.ticks),
         until_halted: options.until_halted,
         format: options.format,
-        expected: expected.as_deref(),
+        expected,
         fail_on: options.fail_on,
-    };
-    let mut progress = Progress::begin(rt, options.quiet);
-    let outcome = run_answer(
-        rt.alloc(),
-        config,
-        &files,
-        &question,
-        &mut progress,
-        &mut rt.stdout(),
-    );
-    progress.finish();
-    outcome
+    }
 }
 
 // The bytes of the expected report, where its file is named.

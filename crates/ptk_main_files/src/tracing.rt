@@ -1,17 +1,15 @@
 //! `trace`: the last steps of a partition, as they are or in words.
 
-ghost use Rattle.std.specs.Prelude.{◌≡◌, ◌⊎◌, ◌+◌, ◌-◌, ◌^◌, min, true, false, None, unwrap_or, IfErr, IsOkAnd, OnOk};
-ghost use Rattle.ptk_config.specs.Configuration.{configuration_in};
+ghost use Rattle.std.specs.Prelude.{◌≡◌, ◌⊎◌, ◌+◌, ◌-◌, ◌^◌, min, true, false, None, unwrap_or, IfErr, OnOk};
 ghost use Rattle.ptk_main_answers.specs.Parts.{part_named};
 ghost use Rattle.ptk_main_answers.specs.Refusals.{IsFaultOf};
 ghost use Rattle.ptk_main_line.specs.Requests.{wants_words};
 ghost use Rattle.ptk_main_line.specs.declared.line.TheConstants.{MOST_TICKS};
-ghost use Rattle.ptk_main_faults.specs.Statuses.{status_number};
-ghost use Rattle.ptk_main_faults.specs.declared.status.ExitStatus.TheVariants.{Done};
 ghost use Rattle.ptk_main_tools.specs.Reading.{IsSymbolsFileFault};
 ghost use Rattle.ptk_main_tools.specs.Usage.{IsUsageStatus};
-ghost use Rattle.ptk_main_files.specs.Outcomes.{IsTraceFault, IsTraced, partition_refusal};
-ghost use Rattle.ptk_main_files.specs.Traces.{AreSteps, IsThread, IsTraceInRange, as_traced, keeping};
+ghost use Rattle.ptk_main_files.specs.Outcomes.{IsTraceFault, IsTraceOf, PutsTrace, WithImages, partition_refusal};
+ghost use Rattle.ptk_main_files.specs.Statuses.{IsStatedStatus, IsTraceEnd, IsTraceStatus};
+ghost use Rattle.ptk_main_files.specs.Traces.{AreSteps, IsThread, IsTraceInRange, keeping};
 
 use crate::explaining::refused;
 use ptk_config::Config;
@@ -22,11 +20,13 @@ use ptk_main_tools::{
     config_of, end, images_of, symbols_of, symbols_text_in, tell, text_in, usage,
 };
 use ptk_words::{ThreadNo, Tick};
+use std::io::Write;
 
 /// The last steps of a partition. A usage error where an option of a trace in words is there without `--decode`.
 pub fn trace(rt: &HostRuntime, options: TraceOptions<'_>) -> u8
     requires { IsTraceInRange options }
-    ensures { wants_words options.entry ≡ true → options.entry.decode ≡ false → IsUsageStatus result }
+    ensures undecoded { wants_words options.entry ≡ true → options.entry.decode ≡ false → IsUsageStatus result }
+    ensures decoded { (wants_words options.entry ≡ true → options.entry.decode ≡ true) → IsTraceEnd options.entry result }
 {
     if options.wants_words() && !options.decode {
         return refuse_undecoded(rt);
@@ -50,12 +50,12 @@ fn refuse_undecoded(rt: &HostRuntime) -> u8
 // The last steps of a partition of the configuration that a text states.
 fn trace_text(rt: &HostRuntime, text: &str, options: TraceOptions<'_>) -> u8
     requires { IsTraceInRange options }
-    ensures { result ≡ status_number Done → IsOkAnd (configuration_in text.now) (λ config. IsTraced options.entry (as_traced options.entry config)) }
+    ensures { IsStatedStatus (IsTraceStatus options.entry) text.now result }
 {
     match config_of(rt, text) {
         Ok(mut config) => {
             keep_last(&mut config, options);
-            end(rt, trace_config(rt, &config, options))
+            end(rt, trace_config(rt, &config, options, &mut rt.stdout()))
         }
         Err(fault) => refused(rt, text, options.explain, &fault),
     }
@@ -73,46 +73,49 @@ fn keep_last(config: &mut Config, options: TraceOptions<'_>)
     }
 }
 
-// The last steps of a partition of a configuration, on standard output.
-fn trace_config<'a>(
+// Writes the last steps of a partition of a configuration.
+fn trace_config<'a, W: Write>(
     rt: &HostRuntime,
     config: &'a Config,
     options: TraceOptions<'a>,
+    out: &mut W,
 ) -> Result<(), Fault<'a>>
     requires { IsTraceInRange options }
-    ensures traced { OnOk result (IsTraced options.entry config.now) }
+    ensures traced { OnOk result (WithImages config.now.sections (IsTraceOf options.entry config.now (W.contents out.old) (W.contents out.new))) }
     ensures failed { IfErr result (IsTraceFault options.entry config.now) }
 {
     let files = images_of(rt, config, options.run.root)?;
-    put_steps(rt, config, &files, options)
+    put_steps(rt, config, &files, options, out)
 }
 
-// The last steps of a partition of a configuration with its images, on standard output.
-fn put_steps<'a>(
+// Writes the last steps of a partition of a configuration with its images.
+fn put_steps<'a, W: Write>(
     rt: &HostRuntime,
     config: &'a Config,
     files: &Files,
     options: TraceOptions<'a>,
+    out: &mut W,
 ) -> Result<(), Fault<'a>>
     requires { IsTraceInRange options }
+    ensures written { OnOk result (PutsTrace options.entry config.now files.now (W.contents out.old) (W.contents out.new)) }
     ensures accepted { OnOk result (partition_refusal options.entry.partition.now config.now files.now ≡ None) }
     ensures failed { IfErr result (λ fault. IsSymbolsFileFault options.entry.symbols fault
         ⊎ IsFaultOf (partition_refusal options.entry.partition.now config.now files.now) (partition_refusal options.entry.partition.now config.now files.now) fault) }
 {
     if options.decode {
-        return put_words(rt, config, files, options);
+        return put_words(rt, config, files, options, out);
     }
     let ticks = Tick::new(options.run.ticks);
-    let out = &mut rt.stdout();
     trace_answer(rt.alloc(), config, files, ticks, options.partition, out)
 }
 
-// The last steps of a partition of a configuration in words, on standard output.
-fn put_words<'a>(
+// Writes the last steps of a partition of a configuration in words.
+fn put_words<'a, W: Write>(
     rt: &HostRuntime,
     config: &'a Config,
     files: &Files,
     options: TraceOptions<'a>,
+    out: &mut W,
 ) -> Result<(), Fault<'a>>
     requires { IsTraceInRange options }
     ensures accepted { OnOk result (partition_refusal options.entry.partition.now config.now files.now ≡ None) }
@@ -131,7 +134,7 @@ fn put_words<'a>(
         options.partition,
         &symbols,
         &filter,
-        &mut rt.stdout(),
+        out,
     )
 }
 

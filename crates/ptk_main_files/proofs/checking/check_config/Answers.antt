@@ -1,15 +1,10 @@
-use Rattle.std.proofs.Common.{inr}
-use Rattle.std.proofs.lemmas.Result.{IfErr-weaker}
-use Rattle.ptk_main_answers.specs.Refusals.{missing_image}
-use Rattle.ptk_main_files.specs.Outcomes.{check_refusal}
-use Rattle.ptk_main_files.proofs.Outcomes.{accepted_by, refused_by}
+use Rattle.std.proofs.Common.{inl, inr}
+use Rattle.std.proofs.lemmas.Result.{IfErr-weaker, on_ok_weaker}
 use Rattle.ptk_main_files.proofs.checking.check_config.Goals as goal
 
 pub returns-clause-sound : goal.returns-clause-sound
-returns-clause-sound c =
-    accepted_by c.args.config.now.sections (missing_image c.args.config.now) (check_refusal c.args.config.now) c.check_with.result c.in_ok-files.files c.in_ok-files.ensures.named c.check_with.ensures.refused
+returns-clause-sound c = on_ok_weaker c.put_check.result (λ is. (c.in_ok-files.files, c.in_ok-files.ensures.named, is)) c.put_check.ensures.sound
 
 pub returns-clause-failed : goal.returns-clause-failed
 returns-clause-failed c =
-    IfErr-weaker c.check_with.result _ _ (λ fault refused. inr refused)
-    (refused_by c.args.config.now.sections (missing_image c.args.config.now) (check_refusal c.args.config.now) c.check_with.result c.in_ok-files.files c.in_ok-files.ensures.named c.check_with.ensures.refused)
+    IfErr-weaker c.put_check.result _ _ (λ fault failed. elim failed [ inl host ↦ inl host | inr refused ↦ inr (inr (c.in_ok-files.files, c.in_ok-files.ensures.named, refused)) ]) c.put_check.ensures.failed

@@ -1,14 +1,21 @@
-use Rattle.std.proofs.Common.{inl, inr}
-use Rattle.std.proofs.lemmas.Result.{IfErr-weaker}
-use Rattle.ptk_main_files.proofs.Outcomes.{failed_by, unexpected, whole_by}
+use Rattle.std.proofs.Common.{◌∙◌, sym, subst}
+use Rattle.std.specs.Prelude.{◌≤◌}
+use Rattle.ptk_words.specs.declared.TheConstants.{LAST_TICK}
+use Rattle.ptk_main_answers.specs.declared.run.RunQuestion.{RunQuestion}
+use Rattle.ptk_main_files.proofs.Outcomes.{failed_by, passed_by}
 use Rattle.ptk_main_files.proofs.running.run_config.Goals as goal
 
-pub returns-clause-whole : goal.returns-clause-whole
-returns-clause-whole c = whole_by c.args.config.now c.run_answer-outcome.result c.in_ok-files.files c.in_ok-files.ensures.named c.run_answer-outcome.ensures.refused
+pub run_answer-outcome-requires : goal.run_answer-outcome-requires
+run_answer-outcome-requires g c = subst (λ (q : RunQuestion). q.ticks ≤ LAST_TICK) (sym c.run_question-question.ensures) c.requires
+
+pub returns-clause-passed : goal.returns-clause-passed
+returns-clause-passed g c =
+    passed_by c.args.options c.args.config.now c.run_answer-outcome.result c.in_ok-files.files c.run_question-question.result c.as_deref.result (g.W.Write.contents c.args.out.now) (g.W.Write.contents c.run_answer-outcome.new.out)
+    c.in_ok-files.ensures.named c.run_question-question.ensures
+    (c.as_deref.ensures.variant ∙ c.in_ok-expected.ensures.named) c.run_answer-outcome.ensures.refused c.run_answer-outcome.ensures.ended
 
 pub returns-clause-failed : goal.returns-clause-failed
-returns-clause-failed c =
-    IfErr-weaker c.run_answer-outcome.result _ _ (λ fault failed. inr (inr failed))
-    (failed_by c.args.config.now c.run_answer-outcome.result c.in_ok-files.files c.in_ok-files.ensures.named c.run_answer-outcome.ensures.refused
-    (IfErr-weaker c.run_answer-outcome.result _ _
-    (λ fault why none. elim (why none) [ inl host ↦ inl host | inr run ↦ inr (unexpected _ _ _ _ fault run.1) ]) c.run_answer-outcome.ensures.failed))
+returns-clause-failed g c =
+    failed_by c.args.options c.args.config.now c.run_answer-outcome.result c.in_ok-files.files c.run_question-question.result c.as_deref.result (g.W.Write.contents c.args.out.now) (g.W.Write.contents c.run_answer-outcome.new.out)
+    c.in_ok-files.ensures.named c.run_question-question.ensures
+    (c.as_deref.ensures.variant ∙ c.in_ok-expected.ensures.named) c.run_answer-outcome.ensures.refused c.run_answer-outcome.ensures.failed

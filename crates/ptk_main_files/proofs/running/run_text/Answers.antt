@@ -1,12 +1,14 @@
-use Rattle.ptk_main_tools.proofs.Statuses.{done_if_ok, never_done}
-use Rattle.ptk_main_files.specs.Outcomes.{IsWhole}
-use Rattle.ptk_main_files.proofs.Outcomes.{stated}
+use Rattle.std.proofs.Common.{inl, inr}
+use Rattle.ptk_main_files.proofs.Outcomes.{run_ended}
 use Rattle.ptk_main_files.proofs.running.run_text.Goals as goal
 
 pub returns-in-Ok : goal.returns-in-Ok
-returns-in-Ok c done =
-    stated IsWhole c.args.text.now c.in-Ok.config c.in-Ok.ensures.stated
-    (done_if_ok (IsWhole c.in-Ok.config) c.run_config.result c.end.result c.run_config.ensures.whole c.end.ensures.failed done)
+returns-in-Ok c =
+    inr (
+      c.in-Ok.config,
+      c.in-Ok.ensures.stated,
+      run_ended c.args.options c.in-Ok.config c.run_config.result c.end.result _ _ c.run_config.ensures.passed c.run_config.ensures.failed c.end.ensures.done c.end.ensures.failed,
+    )
 
 pub returns-in-Err : goal.returns-in-Err
-returns-in-Err c done = absurd (never_done _ _ c.refused.ensures done)
+returns-in-Err c = inl (c.in-Err.fault, c.in-Err.ensures.refused, c.refused.ensures)

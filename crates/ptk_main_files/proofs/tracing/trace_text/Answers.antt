@@ -1,16 +1,15 @@
-use Rattle.std.proofs.Common.{subst}
-use Rattle.ptk_config.specs.Configuration.{Configuration}
-use Rattle.ptk_main_tools.proofs.Statuses.{done_if_ok, never_done}
-use Rattle.ptk_main_files.specs.Outcomes.{IsTraced}
-use Rattle.ptk_main_files.specs.Traces.{as_traced}
-use Rattle.ptk_main_files.proofs.Outcomes.{stated}
+use Rattle.std.proofs.Common.{inl, inr}
+use Rattle.ptk_main_files.proofs.Outcomes.{trace_ended}
 use Rattle.ptk_main_files.proofs.tracing.trace_text.Goals as goal
 
 pub returns-in-Ok : goal.returns-in-Ok
-returns-in-Ok c done =
-    stated (λ (config : Configuration). IsTraced c.args.options (as_traced c.args.options config)) c.args.text.now c.in-Ok.config c.in-Ok.ensures.stated
-    (subst (λ (config : Configuration). IsTraced c.args.options config) c.keep_last.ensures
-    (done_if_ok (IsTraced c.args.options c.keep_last.new.config) c.trace_config.result c.end.result c.trace_config.ensures.traced c.end.ensures.failed done))
+returns-in-Ok c =
+    inr (
+      c.in-Ok.config,
+      c.in-Ok.ensures.stated,
+      trace_ended c.args.options c.in-Ok.config c.keep_last.new.config c.trace_config.result c.end.result _ _ c.keep_last.ensures c.trace_config.ensures.traced c.trace_config.ensures.failed c.end.ensures.done
+          c.end.ensures.failed,
+    )
 
 pub returns-in-Err : goal.returns-in-Err
-returns-in-Err c done = absurd (never_done _ _ c.refused.ensures done)
+returns-in-Err c = inl (c.in-Err.fault, c.in-Err.ensures.refused, c.refused.ensures)
