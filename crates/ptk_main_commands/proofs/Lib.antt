@@ -1,3 +1,5 @@
 pub mod InRange
 pub mod Wrong
 pub mod Pictures
+pub mod Answered
+pub mod Requests

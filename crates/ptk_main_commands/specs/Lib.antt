@@ -1,2 +1,4 @@
 pub mod Requests
 pub mod Refusals
+pub mod Answered
+pub mod Statuses

@@ -1,5 +1,5 @@
 -- Why the requests of this crate are refused.
-use Rattle.std.specs.Prelude.{◌≢◌, ◌⊎◌, ℕ, List, [], Option, unwrap_or}
+use Rattle.std.specs.Prelude.{◌≡◌, ◌≢◌, ◌⊎◌, ℕ, List, [], ◌∷◌, Option, unwrap_or}
 use Rattle.std.specs.Borrow.{Bor}
 use Rattle.std.specs.Option.{option_map_or}
 use Rattle.clap.specs.Words.{IsAmong, Text, fault_of}
@@ -16,6 +16,10 @@ use Rattle.ptk_main_files.specs.Refusals.{missing_image, refused_picture}
 -- clap takes the words neither for a command nor for a request for help (own)
 abbrev pub AreWrong : List Text → Type 0
 AreWrong words = (fault_of ptk words ≢ []) × (¬ IsAmong DisplayHelp (fault_of ptk words)) × (¬ IsAmong DisplayVersion (fault_of ptk words))
+
+-- clap takes the words for a request for help and for nothing else (own)
+abbrev pub AreHelp : List Text → Type 0
+AreHelp words = fault_of ptk words ≡ DisplayHelp ∷ []
 
 -- no partition has the name, where one is asked for; else the first missing image (own)
 abbrev pub stats_refusal : Option (Bor (List ℕ)) → Configuration → List NamedFile → Option Fault

@@ -1,9 +1,12 @@
 //! What the words of the command line ask for.
 
-ghost use Rattle.std.specs.Prelude.{map};
+ghost use Rattle.std.specs.Prelude.{◌≡◌, [], map};
+ghost use Rattle.clap.specs.Words.{fault_of};
+ghost use Rattle.ptk_main_line.specs.CommandLine.{ptk};
 ghost use Rattle.ptk_main_files.specs.Usage.{IsUsageStatus};
-ghost use Rattle.ptk_main_commands.specs.Refusals.{AreWrong};
+ghost use Rattle.ptk_main_commands.specs.Refusals.{AreHelp, AreWrong};
 ghost use Rattle.ptk_main_commands.specs.Requests.{IsInRange};
+ghost use Rattle.ptk_main_commands.specs.Statuses.{IsHelpStatus, IsStatusOf, IsTakenStatus};
 
 use crate::counting::stats;
 use crate::picture::timeline;
@@ -16,7 +19,9 @@ use ptk_main_line::{Request, read_line};
 /// output.
 #[tactic(auto, using(crate::proofs::InRange::asks_in_range))]
 pub fn answer_words(rt: &HostRuntime, words: &[&str]) -> u8
-    ensures { AreWrong (map (λ word. word.now) words.entry.now) → IsUsageStatus result }
+    ensures wrong { AreWrong (map (λ word. word.now) words.entry.now) → IsUsageStatus result }
+    ensures help { AreHelp (map (λ word. word.now) words.entry.now) → IsHelpStatus result }
+    ensures taken { fault_of ptk (map (λ word. word.now) words.entry.now) ≡ [] → IsTakenStatus (map (λ word. word.now) words.entry.now) result }
 {
     match read_line(rt.alloc(), words) {
         Ok(request) => obey(rt, request),
@@ -27,6 +32,7 @@ pub fn answer_words(rt: &HostRuntime, words: &[&str]) -> u8
 /// Does what is asked for, and gives the number of its status. The line of a fault goes to standard error.
 pub fn obey(rt: &HostRuntime, request: Request<'_>) -> u8
     requires { IsInRange request }
+    ensures { IsStatusOf request.entry result }
 {
     match request {
         Request::Run(options) => run(rt, options),

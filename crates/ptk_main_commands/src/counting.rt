@@ -1,12 +1,16 @@
 //! `stats`: the figures of a run.
 
-ghost use Rattle.std.specs.Prelude.{◌≡◌, ◌≤◌, None, IfErr, MatchResult, OnOk};
+ghost use Rattle.std.specs.Prelude.{◌≡◌, ◌≤◌, None, Some, IfErr, MatchResult, OnOk};
 ghost use Rattle.std.specs.Option.{option_map_or};
 ghost use Rattle.ptk_words.specs.declared.TheConstants.{LAST_TICK};
-ghost use Rattle.ptk_main_files.specs.Outcomes.{IsAccepted, IsRefused};
+ghost use Rattle.ptk_statistics.specs.Answered.{PutsRun};
+ghost use Rattle.ptk_main_files.specs.Outcomes.{IsRefused, WithImages};
 ghost use Rattle.ptk_main_files.specs.Parts.{part_named};
 ghost use Rattle.ptk_main_files.specs.Refusals.{IsFaultOf, missing_image, refused_trace};
+ghost use Rattle.ptk_main_files.specs.World.{world_at};
+ghost use Rattle.ptk_main_commands.specs.Answered.{IsStatsOf, figures_in};
 ghost use Rattle.ptk_main_commands.specs.Refusals.{stats_refusal};
+ghost use Rattle.ptk_main_commands.specs.Statuses.{IsStatsEnd};
 
 use ptk_config::Config;
 use ptk_main_faults::Fault;
@@ -20,37 +24,39 @@ use std::io::Write;
 /// The figures of a run of the configuration in a file.
 pub(crate) fn stats(rt: &HostRuntime, options: StatsOptions<'_>) -> u8
     requires { options.run.ticks ≤ LAST_TICK }
+    ensures { IsStatsEnd options.entry result }
 {
     match config_in(rt, options.run.file) {
-        Ok(config) => end(rt, stats_config(rt, &config, options)),
+        Ok(config) => end(rt, stats_config(rt, &config, options, &mut rt.stdout())),
         Err(fault) => tell(rt, &fault),
     }
 }
 
-// The figures of a run of a configuration, on standard output.
-fn stats_config<'a>(
+// Writes the figures of a run of a configuration.
+fn stats_config<'a, W: Write>(
     rt: &HostRuntime,
     config: &'a Config,
     options: StatsOptions<'a>,
+    out: &mut W,
 ) -> Result<(), Fault<'a>>
     requires { options.run.ticks ≤ LAST_TICK }
-    ensures accepted { OnOk result (IsAccepted config.now.sections (stats_refusal options.entry.partition config.now)) }
+    ensures accepted { OnOk result (WithImages config.now.sections (IsStatsOf options.entry config.now (W.contents out.old) (W.contents out.new))) }
     ensures refused { IfErr result (IsRefused config.now.sections (stats_refusal options.entry.partition config.now) (stats_refusal options.entry.partition config.now)) }
 {
     let files = images_of(rt, config, options.run.root)?;
+    let ticks = Tick::new(options.run.ticks);
     stats_answer(
         rt.alloc(),
         config,
         &files,
-        Tick::new(options.run.ticks),
+        ticks,
         options.partition,
         options.format,
-        &mut rt.stdout(),
+        out,
     )
 }
 
-// Writes the figures of a run, of all partitions or of the one of this name. What they are is for `ptk_statistics` to
-// promise.
+// Writes the figures of a run, of all partitions or of the one of this name. Which lines these are is tested.
 fn stats_answer<'a, W: Write>(
     alloc: Global,
     config: &'a Config,
@@ -64,14 +70,23 @@ fn stats_answer<'a, W: Write>(
     ensures refused { let refusal = option_map_or (λ word. refused_trace (part_named config.now word.now) config.now files.now word.now)
         name.entry (missing_image config.now files.now) in
         MatchResult result (λ _. refusal ≡ None) (IsFaultOf refusal refusal) }
+    ensures json { OnOk result (format ≡ Format.Json →
+        PutsRun (world_at config.now files.now ticks) name.entry (W.contents out.old) (W.contents out.new)) }
 {
-    let form = match format {
-        Format::Text => Form::Tables,
-        Format::Json => Form::Json,
-    };
+    let form = figures_in(format);
     match name {
         Some(name) => stats_of_one(alloc, config, files, ticks, name, form, out),
         None => stats_of_all(alloc, config, files, ticks, form, out),
+    }
+}
+
+// The form of figures in the form of an answer.
+fn figures_in(format: Format) -> Form
+    ensures { result ≡ figures_in format }
+{
+    match format {
+        Format::Text => Form::Tables,
+        Format::Json => Form::Json,
     }
 }
 
@@ -88,6 +103,8 @@ fn stats_of_one<'a, W: Write>(
     requires { ticks ≤ LAST_TICK }
     ensures refused { let refusal = refused_trace (part_named config.now name.now) config.now files.now name.now in
         MatchResult result (λ _. refusal ≡ None) (IsFaultOf refusal refusal) }
+    ensures json { OnOk result (form ≡ Form.Json →
+        PutsRun (world_at config.now files.now ticks) (Some name.entry) (W.contents out.old) (W.contents out.new)) }
 {
     match stats_with(alloc, config, files, ticks, Some(name), form, out) {
         Ok(()) => Ok(()),
@@ -107,6 +124,8 @@ fn stats_of_all<'a, W: Write>(
     requires { ticks ≤ LAST_TICK }
     ensures refused { let refusal = missing_image config.now files.now in
         MatchResult result (λ _. refusal ≡ None) (IsFaultOf refusal refusal) }
+    ensures json { OnOk result (form ≡ Form.Json →
+        PutsRun (world_at config.now files.now ticks) None (W.contents out.old) (W.contents out.new)) }
 {
     match stats_with(alloc, config, files, ticks, None, form, out) {
         Ok(()) => Ok(()),

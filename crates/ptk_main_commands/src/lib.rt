@@ -4,11 +4,15 @@
 //! the status of each request (`answer_words`, `obey`), among them `timeline`, `explain` and `stats`.
 //!
 //! - A run, a trace or a picture is asked for at most 2^40 ticks (`obey`, `requires`).
-//! - Words that `clap` refuses, and that ask for no help, end with a usage error, or for memory (`answer_words`).
-//! - `standing_answer`, `timeline_answer` and `stats_answer` promise their refusals alone, and with them
-//!   `explain_config`, `timeline_config` and `stats_config`, for some files that are images of the sections and nothing
-//!   else.
-//! - Which files it reads is tested; which stream gets what is neither proved nor tested.
+//! - Words that `clap` refuses, and that ask for no help, end with a usage error, or for memory. Those that it takes
+//!   end with the status of what they ask for, with a usage error where they ask for nothing, or for memory
+//!   (`answer_words`).
+//! - The status of a request is that of its own command, by what came of it (`obey`).
+//! - `stats`, `timeline` and `explain` are done only where, for some files that are images of the sections and nothing
+//!   else, nothing is refused; a fault is of a file that is not read, by its name, or the refusal for such files.
+//! - As JSON `stats_config` and `explain_config` write the figures and how the partition stands, of the run that is
+//!   asked for. `timeline_answer` promises its refusals alone.
+//! - Which files it reads is tested; that the writer is standard output is neither proved nor tested.
 //!
 //! Below are the other requests (`ptk_main_files`), and what this crate alone joins: the pictures (`ptk_timeline`,
 //! `ptk_timeline_formats`), the figures (`ptk_statistics`) and the explanation of a run (`ptk_explanation`), which are

@@ -8,6 +8,7 @@ ghost use Rattle.ptk_timeline_formats.specs.Faults.{missing_in_format};
 ghost use Rattle.ptk_main_files.specs.Outcomes.{IsAccepted};
 ghost use Rattle.ptk_main_files.specs.Refusals.{IsFaultOf, refused_picture};
 ghost use Rattle.ptk_main_commands.specs.Refusals.{IsNamedRefusal, picture_refusal};
+ghost use Rattle.ptk_main_commands.specs.Statuses.{IsTimelineEnd};
 
 use ptk_config::Config;
 use ptk_main_faults::Fault;
@@ -25,6 +26,7 @@ use std::io::Write;
 /// The picture of a run of the configuration in a file.
 pub(crate) fn timeline(rt: &HostRuntime, options: TimelineOptions<'_>) -> u8
     requires { options.run.ticks ≤ LAST_TICK }
+    ensures { IsTimelineEnd options.entry result }
 {
     match config_in(rt, options.run.file) {
         Ok(config) => end(rt, timeline_config(rt, &config, options)),

@@ -2,10 +2,12 @@
 
 ghost use Rattle.std.specs.Prelude.{◌≡◌, ◌≤◌, None, IfErr, MatchResult, OnOk};
 ghost use Rattle.ptk_words.specs.declared.TheConstants.{LAST_TICK};
-ghost use Rattle.ptk_main_files.specs.Outcomes.{IsAccepted, partition_refusal};
+ghost use Rattle.ptk_main_files.specs.Outcomes.{WithImages, partition_refusal};
 ghost use Rattle.ptk_main_files.specs.Parts.{part_named};
 ghost use Rattle.ptk_main_files.specs.Refusals.{IsFaultOf, refused_trace};
+ghost use Rattle.ptk_main_commands.specs.Answered.{IsExplanationOf, PutsStanding, standing_in};
 ghost use Rattle.ptk_main_commands.specs.Refusals.{IsNamedRefusal};
+ghost use Rattle.ptk_main_commands.specs.Statuses.{IsExplainEnd};
 
 use ptk_config::Config;
 use ptk_explanation::{Form, explain_partition_with};
@@ -22,21 +24,23 @@ use std::io::Write;
 /// How a partition of the configuration in a file stands.
 pub(crate) fn explain(rt: &HostRuntime, options: ExplainOptions<'_>) -> u8
     requires { options.run.ticks ≤ LAST_TICK }
+    ensures { IsExplainEnd options.entry result }
 {
     match config_in(rt, options.run.file) {
-        Ok(config) => end(rt, explain_config(rt, &config, options)),
+        Ok(config) => end(rt, explain_config(rt, &config, options, &mut rt.stdout())),
         Err(fault) => tell(rt, &fault),
     }
 }
 
-// How a partition of a configuration stands, on standard output.
-fn explain_config<'a>(
+// Writes how a partition of a configuration stands.
+fn explain_config<'a, W: Write>(
     rt: &HostRuntime,
     config: &'a Config,
     options: ExplainOptions<'a>,
+    out: &mut W,
 ) -> Result<(), Fault<'a>>
     requires { options.run.ticks ≤ LAST_TICK }
-    ensures accepted { OnOk result (IsAccepted config.now.sections (partition_refusal options.entry.partition.now config.now)) }
+    ensures accepted { OnOk result (WithImages config.now.sections (IsExplanationOf options.entry config.now (W.contents out.old) (W.contents out.new))) }
     ensures refused { IfErr result (IsNamedRefusal options.entry.symbols config.now (partition_refusal options.entry.partition.now config.now)) }
 {
     let files = images_of(rt, config, options.run.root)?;
@@ -51,11 +55,11 @@ fn explain_config<'a>(
         options.partition,
         &symbols,
         options.format,
-        &mut rt.stdout(),
+        out,
     )
 }
 
-// Writes how the partition of this name stands after a run. What that says is for `ptk_explanation` to promise.
+// Writes how the partition of this name stands after a run. Which lines these are is tested.
 fn standing_answer<'a, W: Write>(
     alloc: Global,
     config: &'a Config,
@@ -69,13 +73,22 @@ fn standing_answer<'a, W: Write>(
     requires { ticks ≤ LAST_TICK }
     ensures refused { let refusal = refused_trace (part_named config.now name.now) config.now files.now name.now in
         MatchResult result (λ _. refusal ≡ None) (IsFaultOf refusal refusal) }
+    ensures json { OnOk result (format ≡ Format.Json →
+        PutsStanding symbols.now config.now files.now ticks name.now (W.contents out.old) (W.contents out.new)) }
 {
-    let form = match format {
-        Format::Text => Form::Lines,
-        Format::Json => Form::Json,
-    };
+    let form = standing_in(format);
     match explain_partition_with(alloc, config, files, ticks, name, symbols, form, out) {
         Ok(()) => Ok(()),
         Err(fault) => Err(run_fault(config, name, fault)),
+    }
+}
+
+// The form of what is said of a partition in the form of an answer.
+fn standing_in(format: Format) -> Form
+    ensures { result ≡ standing_in format }
+{
+    match format {
+        Format::Text => Form::Lines,
+        Format::Json => Form::Json,
     }
 }

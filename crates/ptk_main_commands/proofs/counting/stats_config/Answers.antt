@@ -1,13 +1,14 @@
-use Rattle.ptk_main_files.proofs.Outcomes.{accepted_by, refused_by}
+use Rattle.ptk_main_files.proofs.Outcomes.{refused_by}
 use Rattle.ptk_main_commands.specs.Refusals.{stats_refusal}
+use Rattle.ptk_main_commands.proofs.Answered.{stats_by}
 use Rattle.ptk_main_commands.proofs.counting.stats_config.Goals as goal
 
 pub returns-clause-accepted : goal.returns-clause-accepted
-returns-clause-accepted c =
-    let refusal = stats_refusal c.args.options.partition c.args.config.now in
-    accepted_by c.args.config.now.sections refusal refusal c.stats_answer.result c.in_ok-files.files c.in_ok-files.ensures.named c.stats_answer.ensures.refused
+returns-clause-accepted g c =
+    stats_by c.args.options c.args.config.now c.stats_answer.result c.in_ok-files.files c.new-ticks.result (g.W.Write.contents c.args.out.now) (g.W.Write.contents c.stats_answer.new.out) c.in_ok-files.ensures.named c.new-ticks.ensures
+    c.stats_answer.ensures.refused c.stats_answer.ensures.json
 
 pub returns-clause-refused : goal.returns-clause-refused
-returns-clause-refused c =
+returns-clause-refused g c =
     let refusal = stats_refusal c.args.options.partition c.args.config.now in
     refused_by c.args.config.now.sections refusal refusal c.stats_answer.result c.in_ok-files.files c.in_ok-files.ensures.named c.stats_answer.ensures.refused

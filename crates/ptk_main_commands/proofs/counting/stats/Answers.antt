@@ -1,0 +1,18 @@
+use Rattle.std.proofs.Common.{inl, inr}
+use Rattle.std.proofs.lemmas.Result.{on_ok_weaker}
+use Rattle.ptk_main_files.specs.Outcomes.{IsAccepted, IsRefused}
+use Rattle.ptk_main_files.proofs.Outcomes.{ended}
+use Rattle.ptk_main_commands.specs.Refusals.{stats_refusal}
+use Rattle.ptk_main_commands.proofs.counting.stats.Goals as goal
+
+pub returns-in-Ok : goal.returns-in-Ok
+returns-in-Ok c =
+    let refusal = stats_refusal c.args.options.partition c.in-Ok.config in
+    inr (
+      c.in-Ok.config,
+      ended (IsAccepted c.in-Ok.config.sections refusal) (IsRefused c.in-Ok.config.sections refusal refusal) c.stats_config.result c.end.result
+          (on_ok_weaker c.stats_config.result (λ images. (images.0, images.1, images.2.accepted)) c.stats_config.ensures.accepted) c.stats_config.ensures.refused c.end.ensures.done c.end.ensures.failed,
+    )
+
+pub returns-in-Err : goal.returns-in-Err
+returns-in-Err c = inl (c.in-Err.fault, c.in-Err.ensures, c.tell.ensures)

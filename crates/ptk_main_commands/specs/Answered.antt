@@ -1,0 +1,52 @@
+-- What the requests of this crate write of a configuration and the images that were read of it.
+use Rattle.std.specs.Prelude.{◌≡◌, ℕ, List, Option, Some, None, Ok}
+use Rattle.std.specs.Io.KnownBytes.{Appends}
+use Rattle.ptk_symbols.specs.Tables.{table_of}
+use Rattle.ptk_config.specs.Configuration.{Configuration}
+use Rattle.ptk_statistics.specs.Answered.{PutsRun}
+use Rattle.ptk_statistics.specs.declared.answer.Form.{Form as Figures}
+use Rattle.ptk_statistics.specs.declared.answer.Form.TheVariants as figures
+use Rattle.ptk_explanation.specs.Objects.{IsExplanation}
+use Rattle.ptk_explanation.specs.declared.answer.Form.{Form as Standing}
+use Rattle.ptk_explanation.specs.declared.answer.Form.TheVariants as standing
+use Rattle.ptk_main_line.specs.declared.requests.ExplainOptions.{ExplainOptions}
+use Rattle.ptk_main_line.specs.declared.requests.Format.{Format}
+use Rattle.ptk_main_line.specs.declared.requests.Format.TheVariants as form
+use Rattle.ptk_main_line.specs.declared.requests.StatsOptions.{StatsOptions}
+use Rattle.ptk_main_files.specs.NamedFiles.{NamedFile}
+use Rattle.ptk_main_files.specs.Outcomes.{partition_refusal}
+use Rattle.ptk_main_files.specs.Parts.{part_named}
+use Rattle.ptk_main_files.specs.World.{world_at}
+use Rattle.ptk_main_commands.specs.Refusals.{stats_refusal}
+
+-- ---- figures
+
+-- the form of figures in the form of an answer (own)
+abbrev pub figures_in : Format → Figures
+figures_in form.Text = figures.Tables
+figures_in form.Json = figures.Json
+
+-- with these images nothing is refused, and as JSON the figures of a run to the tick that is asked for are written (own)
+pub record IsStatsOf (options : StatsOptions) (config : Configuration) (old new : Option (List ℕ)) (files : List NamedFile) : Type 0 where
+  pub accepted : stats_refusal options.partition config files ≡ None
+  pub json : options.format ≡ form.Json → PutsRun (world_at config files options.run.ticks) options.partition old new
+
+-- ---- how a partition stands
+
+-- the form of what is said of a partition in the form of an answer (own)
+abbrev pub standing_in : Format → Standing
+standing_in form.Text = standing.Lines
+standing_in form.Json = standing.Json
+
+-- the object of the partition of this name after this many ticks is written (own)
+abbrev pub PutsStanding : List (ℕ × List ℕ) → Configuration → List NamedFile → ℕ → List ℕ → Option (List ℕ) → Option (List ℕ) → Type 0
+PutsStanding symbols config files ticks name old new =
+    (p : ℕ) × (part_named config name ≡ Some p) × (text : List ℕ) × IsExplanation symbols (world_at config files 0) ticks p text × Appends old new text
+
+-- with these images nothing is refused, and as JSON how the partition stands is written, with the symbols of a text (own)
+pub record IsExplanationOf (options : ExplainOptions) (config : Configuration) (old new : Option (List ℕ)) (files : List NamedFile) : Type 0 where
+  pub accepted : partition_refusal options.partition.now config files ≡ None
+  pub bytes : List ℕ
+  pub symbols : List (ℕ × List ℕ)
+  pub table : table_of bytes ≡ Ok symbols
+  pub json : options.format ≡ form.Json → PutsStanding symbols config files options.run.ticks options.partition.now old new
