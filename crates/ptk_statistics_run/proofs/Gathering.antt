@@ -1,5 +1,5 @@
 -- Lists of which each is made anew, one after the other, and what is gathered of each on the way.
-use Rattle.std.proofs.Common.{◌≡◌, ◌≢◌, ℕ, suc, ◌+◌, ◌<◌, ◌≤◌, List, length, refl, sym, ◌∙◌, ap, arith, inl, inr, add-one, get_or-set_other, get_or-set_same}
+use Rattle.std.proofs.Common.{◌≡◌, ◌≢◌, ℕ, suc, ◌+◌, ◌<◌, ◌≤◌, List, length, refl, sym, subst, ◌∙◌, ap, arith, inl, inr, add-one, get_or-set_other, get_or-set_same}
 use Rattle.std.specs.Prelude.{slice_index_or, slice_set}
 use Rattle.std.proofs.lemmas.Bool.{cases_order}
 use Rattle.std.proofs.lemmas.List.{get_or_default}
@@ -54,3 +54,39 @@ one_of_each f threads n t item first mutexes within number so =
     ∙ (ap (λ (x : ThreadStatistics). f (suc n) x mutexes) (get_or_default threads n item (new_thread doings.Free) within)
     ∙ (ap (f (suc n) (slice_index_or threads n (new_thread doings.Free))) so
     ∙ ap (λ (k : ℕ). with_each_of f threads k first) (sym next)))
+
+-- the first n are what R says of them, each by its place, and the others are as they were
+pub record AreRelatedTo {A : Type 0} (R : ℕ → A → A → Type 0) (n : ℕ) (before after : List A) : Type 0 where
+  pub related : (place : ℕ) (default : A) → place < n → R place (slice_index_or before place default) (slice_index_or after place default)
+  pub later : (place : ℕ) (default : A) → n ≤ place → slice_index_or after place default ≡ slice_index_or before place default
+
+pub none_related : {A : Type 0} (R : ℕ → A → A → Type 0) (before : List A) → AreRelatedTo R 0 before before
+none_related R before = record { related = λ place default below. absurd (omega (arith, below)); later = λ place default past. refl }
+
+module _ {A : Type 0} (R : ℕ → A → A → Type 0) (n t : ℕ) (before after : List A) (item new : A)
+    (within : n < length before) (kept : n < length after) (number : t ≡ n) (so : AreRelatedTo R n before after)
+    (now : R t (slice_index_or after n item) new) where
+  last_related : (default : A) → R n (slice_index_or before n default) (slice_index_or (slice_set after n new) n default)
+  last_related default =
+      subst (R n (slice_index_or before n default)) (sym (get_or-set_same after n new default kept))
+      (subst (λ (old : A). R n old new) (so.later n item (omega arith) ∙ get_or_default before n item default within)
+      (subst (λ (k : ℕ). R k (slice_index_or after n item) new) number now))
+
+  related_more : (place : ℕ) (default : A) → place < n + 1 → R place (slice_index_or before place default) (slice_index_or (slice_set after n new) place default)
+  related_more place default below = elim (cases_order place n) [
+    | inl same ↦ subst (λ (k : ℕ). R k (slice_index_or before k default) (slice_index_or (slice_set after n new) k default)) (sym same) (last_related default)
+    | inr order ↦ elim order [
+      | inl under ↦
+          (let other : place ≢ n = omega (arith, under) in
+          subst (R place (slice_index_or before place default)) (sym (get_or-set_other after n place new default other)) (so.related place default under))
+      | inr above ↦ absurd (omega (arith, below, above))
+    ]
+  ]
+
+  rest_more : (place : ℕ) (default : A) → n + 1 ≤ place → slice_index_or (slice_set after n new) place default ≡ slice_index_or before place default
+  rest_more place default past =
+      let other : place ≢ n = omega (arith, past) in
+      get_or-set_other after n place new default other ∙ so.later place default (omega (arith, past))
+
+  pub one_related : AreRelatedTo R (n + 1) before (slice_set after n new)
+  one_related = record { related = related_more; later = rest_more }

@@ -1,6 +1,5 @@
 -- What becomes of the figures of threads and mutexes at a partition's decisions.
-use Rattle.std.specs.Prelude.{ℕ, zero, suc, ◌+◌, ◌-◌, ◌<◌, nat_eq, min, ◌==◌, Bool, true, false, ◌&&◌, ◌||◌, not, if◌then◌else◌, MatchBool, List, length, replicate, slice_get, slice_index_or, slice_set, Option, Some, None, option_map, unwrap_or, ◌≡◌}
-use Rattle.std.specs.List.{list_any}
+use Rattle.std.specs.Prelude.{ℕ, zero, suc, ◌+◌, ◌-◌, ◌<◌, nat_eq, min, ◌==◌, Bool, true, false, ◌&&◌, not, if◌then◌else◌, MatchBool, List, length, replicate, slice_get, slice_index_or, slice_set, Option, Some, None, option_and_then, option_map, unwrap_or, ◌≡◌}
 use Rattle.std.specs.Option.{option_eq}
 use Rattle.ptk_words.specs.Calls.{number_of}
 use Rattle.ptk_words.specs.Names.{MutexNumber, ThreadNumber, Tick}
@@ -9,7 +8,6 @@ use Rattle.ptk_words.specs.declared.calls.Call.TheVariants.{SchedYield}
 use Rattle.ptk_words.specs.declared.sections.Entry.{Entry}
 use Rattle.ptk_words_windows.specs.Windows.{own_ticks}
 use Rattle.ptk_words_model.specs.State.{Part}
-use Rattle.ptk_words_model.specs.Withdrawal.{deadlines_of}
 use Rattle.ptk_main_runs.specs.Activities.{activity_in, mutex_of_activity, owner_thread}
 use Rattle.ptk_main_runs.specs.Activity.{Activity}
 use Rattle.ptk_main_runs.specs.Told.{is_halted, register_in, status_in}
@@ -24,8 +22,9 @@ use Rattle.ptk_statistics_figures.specs.declared.moment.Moment.{Moment}
 use Rattle.ptk_statistics_figures.specs.declared.mutex.MutexStatistics.{MutexStatistics}
 use Rattle.ptk_statistics_figures.specs.declared.thread.ThreadStatistics.{ThreadStatistics}
 use Rattle.ptk_statistics_run.specs.declared.observed.Observed.{Observed}
+use Rattle.ptk_statistics_run.specs.declared.observed.OwnerCall.{OwnerCall}
 use Rattle.ptk_statistics_run.specs.declared.observed.TheConstants.{MUTEX_LIMIT}
-use Rattle.ptk_statistics_run.specs.Observations.{comes_by, doing_of, has_halted, is_apart, is_late_error, is_refused, is_reply_error, number_in, pc_behind, step_at, with_reply, with_stack}
+use Rattle.ptk_statistics_run.specs.Observations.{comes_by, doing_of, has_halted, is_apart, is_late_error, is_refused, is_reply_error, number_in, owner_call, pc_behind, step_at, with_reply, with_stack}
 
 -- ---- waits for mutexes
 
@@ -261,9 +260,9 @@ pub record IsSeen (is_same : Doing → Doing → Bool) (world : World) (p : ℕ)
   pub last : after.last ≡ last_behind (step_at at.tick (state_of world p).part) before.last
   pub is_disturbed : after.is_disturbed ≡ before.is_disturbed
 
--- input arrives, or a deadline expires, at a tick or before it (own)
-abbrev pub is_disturbed_by : Tick → Part → Bool
-is_disturbed_by now s = list_any (comes_by now) (deadlines_of s.locks) || comes_by now (option_map (λ arrival. arrival.tick) (slice_get s.console.coming 0))
+-- input arrives at a tick or before it (own)
+abbrev pub is_input_by : Tick → Part → Bool
+is_input_by now s = comes_by now (option_map (λ arrival. arrival.tick) (slice_get s.console.coming 0))
 
 -- ---- rows of plain steps
 
@@ -284,6 +283,10 @@ behind_row entry s call thread = with_any_quiet_call entry s call (with_stack (r
 abbrev pub threads_behind_row : Option Entry → Part → List ThreadStatistics → List ThreadStatistics
 threads_behind_row None s threads = threads
 threads_behind_row (Some entry) s threads = with_thread entry.thread (behind_row entry s (number_in entry s)) threads
+
+-- the call that ends such steps, the last of which is this, where it can give a mutex another owner (own)
+abbrev pub call_behind_row : Entry → Part → Option OwnerCall
+call_behind_row entry s = option_and_then (λ number. owner_call number entry) (number_in entry s)
 
 -- ---- before the first tick
 

@@ -1,12 +1,20 @@
--- That the figures of all partitions add up, while they are gathered and in the end.
-use Rattle.std.specs.Prelude.{◌≡◌, ℕ, ◌<◌, ◌≤◌, List, length, slice_index_or}
-use Rattle.ptk_words.specs.declared.TheConstants.{LAST_TICK}
-use Rattle.ptk_main_runs.specs.World.{World}
+-- That the figures of all partitions add up, and what is seen of their threads and mutexes, while they are gathered and in the end.
+use Rattle.std.specs.Prelude.{◌≡◌, ℕ, ◌+◌, ◌<◌, ◌≤◌, nat_eq, ◌==◌, Bool, if◌then◌else◌, MatchBool, List, length, slice_index_or, Some}
+use Rattle.std.specs.Option.{option_eq}
+use Rattle.ptk_words.specs.Names.{Tick}
+use Rattle.ptk_words.specs.declared.TheConstants.{LAST_TICK, THREAD_LIMIT}
+use Rattle.ptk_main_runs.specs.World.{World, at_tick, state_of}
 use Rattle.ptk_statistics_run.specs.declared.part.PartStatistics.{PartStatistics}
 use Rattle.ptk_statistics_run.specs.declared.part.Sight.{Sight}
 use Rattle.ptk_statistics_run.specs.declared.part.Sight.TheVariants.{Coming, Decided}
 use Rattle.ptk_statistics_run.specs.declared.statistics.Statistics.{Statistics}
-use Rattle.ptk_statistics_figures.specs.Counts.{reached}
+use Rattle.ptk_statistics_figures.specs.Counts.{counted_ticks, reached}
+use Rattle.ptk_statistics_figures.specs.declared.counted.Counted.{Counted}
+use Rattle.ptk_statistics_figures.specs.declared.doing.Doing.{Doing}
+use Rattle.ptk_statistics_figures.specs.declared.moment.Moment.{Moment}
+use Rattle.ptk_statistics_figures.specs.declared.thread.ThreadStatistics.{ThreadStatistics}
+use Rattle.ptk_statistics_run.specs.declared.observed.Observed.{Observed}
+use Rattle.ptk_statistics_run.specs.Gathering.{AreMadeBy, IsSeen, finished, threads_behind_row}
 use Rattle.ptk_statistics_run.specs.Sums.{AddsUp, Agrees}
 
 -- a decision that is looked at is at a tick of a run
@@ -32,3 +40,58 @@ AreEnded world count parts = (p : ℕ) (default : PartStatistics) → p < count 
 pub record AgreesWith (world : World) (statistics : Statistics) : Type 0 where
   pub count : length statistics.parts.items ≡ length world.config.sections
   pub each : (p : ℕ) (default : PartStatistics) → p < length statistics.parts.items → Agrees world p (slice_index_or statistics.parts.items p default).counted
+
+-- ---- what is seen of threads and mutexes
+
+-- the partition decides at the system's tick (own)
+abbrev pub is_due_at : World → ℕ → Bool
+is_due_at world p = option_eq nat_eq (state_of world p).account.next (Some world.tick)
+
+-- the moment at a tick, where all is counted up to there (own)
+abbrev pub moment_at : Tick → Counted → Moment
+moment_at tick counted = record { own = counted_ticks counted; tick = tick }
+
+-- the figures of all threads and mutexes are as they were (own)
+abbrev pub KeepsFigures : Observed → Observed → Type 0
+KeepsFigures before after = after ≡ record before { is_disturbed = after.is_disturbed }
+
+-- behind a tick: what is seen of the partition's decision, if it made one (own)
+abbrev pub IsSeenIfDue : (Doing → Doing → Bool) → World → ℕ → Tick → Tick → PartStatistics → PartStatistics → Type 0
+IsSeenIfDue is_same world p tick to before after =
+    MatchBool before.is_due (IsSeen is_same world p (moment_at tick before.counted) to before.observed after.observed) (after.observed ≡ before.observed)
+
+-- what is seen of a partition whose system will make its decisions, or made them (own)
+abbrev pub IsSeenBy : (Doing → Doing → Bool) → World → ℕ → Sight → Tick → PartStatistics → PartStatistics → Type 0
+IsSeenBy is_same world p Coming to before after = (after.is_due ≡ is_due_at world p) × KeepsFigures before.observed after.observed
+IsSeenBy is_same world p (Decided tick) to before after = IsSeenIfDue is_same world p tick to before after
+
+-- behind rows of plain steps and a quiet call: the figures of threads, which change where a step was made since they were looked at (own)
+abbrev pub threads_behind_rows : World → ℕ → PartStatistics → List ThreadStatistics
+threads_behind_rows world p part =
+    if (state_of world p).account.steps == part.seen
+    then part.observed.threads.items
+    else threads_behind_row (state_of world p).part.last (state_of world p).part part.observed.threads.items
+
+-- where the run ends: what the threads did so far they did until then, by all that is counted (own)
+abbrev pub IsFinished : PartStatistics → PartStatistics → Type 0
+IsFinished before after = AreMadeBy (λ t. finished (moment_at (reached after.counted) after.counted)) THREAD_LIMIT before.observed.threads.items after.observed.threads.items
+
+-- so of each partition, in their order (own)
+abbrev pub AreSeenBy : (Doing → Doing → Bool) → World → Sight → Tick → List PartStatistics → List PartStatistics → Type 0
+AreSeenBy is_same world sight to before after =
+    (p : ℕ) (default : PartStatistics) → p < length before → IsSeenBy is_same world p sight to (slice_index_or before p default) (slice_index_or after p default)
+
+-- behind rows of plain steps and quiet calls: the figures of each partition's threads (own)
+abbrev pub AreBehindRows : World → List PartStatistics → List PartStatistics → Type 0
+AreBehindRows world before after =
+    (p : ℕ) (default : PartStatistics) → p < length before → (slice_index_or after p default).observed.threads.items ≡ threads_behind_rows world p (slice_index_or before p default)
+
+-- where the run ends: what each partition's threads did so far they did until then, by all that is counted (own)
+abbrev pub AreFinished : List PartStatistics → List PartStatistics → Type 0
+AreFinished before after = (p : ℕ) (default : PartStatistics) → p < length before → IsFinished (slice_index_or before p default) (slice_index_or after p default)
+
+-- the decisions at a tick: each partition's is looked at ahead of it and behind it (own)
+pub record AreDecided (is_same : Doing → Doing → Bool) (world : World) (tick to : Tick) (before after : List PartStatistics) : Type 0 where
+  pub ahead : List PartStatistics
+  pub coming : AreSeenBy is_same world Coming to before ahead
+  pub decided : AreSeenBy is_same (at_tick (tick + 1) world) (Decided tick) to ahead after

@@ -7,7 +7,9 @@
 //! - What a thread does, which step a decision began, and which call that step is are the definitions' (`doing_of`,
 //!   `step_at`, `number_in`). So is what a decision leaves of the figures of a thread that makes a step (`stepped`) and
 //!   of one that makes none (`looked_at`), and of those of the mutexes, with the waits that end and the owners that are
-//!   new (`wait_ended`, `with_owner`). That a run tells each of its decisions once is tested.
+//!   new (`wait_ended`, `with_owner`). Each partition is looked at ahead of the decisions at a tick and behind them
+//!   (`AreDecided`), behind rows of plain steps (`AreBehindRows`) and at the end (`AreFinished`). At which ticks a run
+//!   does so, and that an expired deadline makes it look at all threads, is tested.
 //!
 //! The run goes on by single decisions where a call or a change may come, by rows of plain steps between, and over
 //! ticks at which nothing is due at once. What is gathered over a whole run is tested. Below are the figures of one

@@ -1,13 +1,13 @@
 //! What is seen of a partition's threads and mutexes at its decisions.
 
-ghost use Rattle.std.specs.Prelude.{◌≡◌, ◌<◌, ◌≤◌, ◌&&◌, IfOk, None, length, not};
+ghost use Rattle.std.specs.Prelude.{◌≡◌, ◌-◌, ◌<◌, ◌≤◌, ◌&&◌, IfOk, None, length, not, true};
 ghost use Rattle.ptk_words.specs.Calls.{call_of};
 ghost use Rattle.ptk_words.specs.declared.TheConstants.{LAST_TICK, SP, THREAD_LIMIT};
 ghost use Rattle.ptk_main_runs.specs.Told.{register_in};
 ghost use Rattle.ptk_main_runs.specs.World.{state_of};
 ghost use Rattle.ptk_statistics_run.specs.Observations.{comes_by, has_halted, is_apart, is_late_error, is_owner_call, is_refused, is_reply_error, is_shared, number_in, owner_call, pc_behind, replied, step_at, with_reply, with_stack};
 ghost use Rattle.ptk_statistics_run.specs.declared.observed.TheConstants.{MUTEX_LIMIT};
-ghost use Rattle.ptk_statistics_run.specs.Gathering.{AreMadeBy, AreSeen, AreWaitsSeen, IsFirst, IsSeen, at_step, at_step_end, begun, behind_row, changed, finished, is_alone, is_preempted_behind, last_behind, looked_at, owned_until, running_from, seen, seen_apart, step_end, step_over, step_ticks, stepped_in, thread_of, threads_behind_row, wait_ended, waiting_for, waits_apart, waits_looked_at, waits_of_last, waits_seen, window_end, with_all_waits, with_call_made, with_last, with_mutex, with_outcome, with_owner, with_owner_behind, with_preemption, with_quiet_call, with_reply_at_wake, with_thread, with_wait};
+ghost use Rattle.ptk_statistics_run.specs.Gathering.{AreMadeBy, AreSeen, AreWaitsSeen, IsFirst, IsSeen, at_step, at_step_end, begun, behind_row, call_behind_row, changed, finished, is_alone, is_input_by, is_preempted_behind, last_behind, looked_at, owned_until, running_from, seen, seen_apart, step_end, step_over, step_ticks, stepped_in, thread_of, threads_behind_row, wait_ended, waiting_for, waits_apart, waits_looked_at, waits_of_last, waits_seen, window_end, with_all_waits, with_call_made, with_last, with_mutex, with_outcome, with_owner, with_owner_behind, with_preemption, with_quiet_call, with_reply_at_wake, with_thread, with_wait};
 ghost use Rattle.ptk_main_runs.specs.Activities.{activity_in, owner_thread};
 ghost use Rattle.ptk_statistics_figures.specs.Mutexes.{waited_from};
 ghost use Rattle.ptk_statistics_figures.specs.Times.{time_between};
@@ -135,9 +135,10 @@ impl Observed {
     /// Whether input arrives or a deadline expires with the partition's decision at the system's tick.
     pub(crate) fn look_ahead(&mut self, system: &System<'_>, p: PartId)
         requires { p < length system.now.config.sections }
-        ensures { self.new ≡ record self.old { is_disturbed = self.new.is_disturbed } }
+        ensures others { self.new ≡ record self.old { is_disturbed = self.new.is_disturbed } }
+        ensures input { is_input_by system.now.tick (state_of system.now p).part ≡ true → self.new.is_disturbed ≡ true }
     {
-        self.is_disturbed = is_disturbed(system, p);
+        self.is_disturbed = is_disturbed(system, p, system.tick());
     }
 
     /// Looks at the thread that made this step, and at the one that made the last step before.
@@ -199,14 +200,31 @@ impl Observed {
         ensures others { self.new ≡ record self.old { threads = self.new.threads; last = self.new.last } }
     {
         let entry = system.last_step(p)?;
+        self.look_at_last_step(system, p, &entry)
+    }
+
+    /// The partition's running thread made this step last, behind plain steps. Returns the call that it is, where that
+    /// can give a mutex another owner.
+    #[inline(always)]
+    fn look_at_last_step(
+        &mut self,
+        system: &System<'_>,
+        p: PartId,
+        entry: &Entry,
+    ) -> Option<OwnerCall>
+        requires { p < length system.now.config.sections }
+        ensures threads { self.new.threads.items ≡ with_thread entry.now.thread (behind_row entry.now (state_of system.now p).part (number_in entry.now (state_of system.now p).part)) self.old.threads.items }
+        ensures others { self.new ≡ record self.old { threads = self.new.threads; last = self.new.last } }
+        ensures call { entry.now.thread - 1 < length self.old.threads.items → result ≡ call_behind_row entry.now (state_of system.now p).part }
+    {
         let place = entry.thread.place();
         if self.threads.len() <= place {
             return None;
         }
         self.last = Some(entry.thread);
-        let call = call_of(system, p, &entry);
-        see_row(&mut self.threads[place], system, p, &entry, &call);
-        owner_call(&entry, call?)
+        let call = call_of(system, p, entry);
+        see_row(&mut self.threads[place], system, p, entry, &call);
+        owner_call(entry, call?)
     }
 
     /// Who owns each mutex, from a moment on.
@@ -861,13 +879,23 @@ fn call_of(system: &System<'_>, p: PartId, entry: &Entry) -> Option<u32>
     Some(number.unwrap_or(Call::PthreadExit.number()))
 }
 
-/// Whether input arrives or a deadline expires with the partition's decision at the system's tick.
-fn is_disturbed(system: &System<'_>, p: PartId) -> bool
+/// Whether input arrives or a deadline expires with the partition's decision at this tick.
+fn is_disturbed(system: &System<'_>, p: PartId, now: Tick) -> bool
     requires { p < length system.now.config.sections }
+    ensures { is_input_by now (state_of system.now p).part ≡ true → result ≡ true }
 {
-    let now = system.tick();
-    let tables = system.tables();
-    comes_by(tables.next_deadline(p), now) || comes_by(tables.next_arrival_tick(p), now)
+    if comes_by(system.tables().next_deadline(p), now) {
+        return true;
+    }
+    is_input_due(system, p, now)
+}
+
+/// Whether the partition's next input comes at this tick or before it.
+fn is_input_due(system: &System<'_>, p: PartId, now: Tick) -> bool
+    requires { p < length system.now.config.sections }
+    ensures { result ≡ is_input_by now (state_of system.now p).part }
+{
+    comes_by(system.tables().next_arrival_tick(p), now)
 }
 
 /// Whether a tick, where there is one, is this one or before it.

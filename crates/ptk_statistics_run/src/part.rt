@@ -3,12 +3,14 @@
 ghost use Rattle.std.specs.Prelude.{◌≡◌, ◌<◌, ◌≤◌, IfOk, length};
 ghost use Rattle.ptk_words.specs.declared.TheConstants.{LAST_TICK};
 ghost use Rattle.ptk_statistics_figures.specs.Counts.{reached};
-ghost use Rattle.ptk_statistics_run.specs.Parts.{IsBefore, IsKept};
+ghost use Rattle.ptk_main_runs.specs.World.{state_of};
+ghost use Rattle.ptk_statistics_run.specs.Gathering.{IsFirst, IsSeen, threads_behind_row};
+ghost use Rattle.ptk_statistics_run.specs.Parts.{IsBefore, IsFinished, IsKept, IsSeenBy, IsSeenIfDue, KeepsFigures, is_due_at, moment_at, threads_behind_rows};
 
 use crate::advance::{advance, first_count};
 use crate::observed::{Observed, OwnerCall};
 use ptk_main_runs::System;
-use ptk_statistics_figures::{Counted, Moment, MutexStatistics, ThreadStatistics};
+use ptk_statistics_figures::{Counted, Doing, Moment, MutexStatistics, ThreadStatistics};
 use ptk_words::PartId;
 use std::alloc::{AllocError, Global};
 
@@ -43,7 +45,8 @@ impl PartStatistics {
     ) -> Result<PartStatistics, AllocError>
         requires partition { p < length system.now.config.sections }
         requires begun { system.now.tick ≡ 0 }
-        ensures { IfOk result (IsKept system.now p) }
+        ensures kept { IfOk result (IsKept system.now p) }
+        ensures first { IfOk result (λ part. IsFirst (state_of system.now p).part threads mutexes part.observed) }
     {
         let observed = Observed::new(alloc, system, p, threads, mutexes)?;
         Ok(PartStatistics {
@@ -60,7 +63,8 @@ impl PartStatistics {
         requires early { system.now.tick ≤ LAST_TICK }
         requires last { IsBefore sight }
         requires kept { IsKept system.now p self.old }
-        ensures { IsKept system.now p self.new }
+        ensures kept { IsKept system.now p self.new }
+        ensures seen { IsSeenBy ⟦<Doing as PartialEq>⟧.eq system.now p sight to self.old self.new }
     {
         match sight {
             Sight::Coming => self.look_ahead(system, p),
@@ -73,13 +77,27 @@ impl PartStatistics {
         requires partition { p < length system.now.config.sections }
         requires early { system.now.tick ≤ LAST_TICK }
         requires kept { IsKept system.now p self.old }
-        ensures { IsKept system.now p self.new }
+        ensures kept { IsKept system.now p self.new }
+        ensures due { self.new.is_due ≡ is_due_at system.now p }
+        ensures seen { KeepsFigures self.old.observed self.new.observed }
     {
         self.is_due = system.next(p) == Some(system.tick());
         if self.is_due {
-            self.observed.look_ahead(system, p);
+            self.expect(system, p);
         }
-        if self.is_due && self.counted.tick() < system.tick().ticks() {
+    }
+
+    /// Looks ahead at the decision that the partition makes at the system's tick, and counts up to there.
+    fn expect(&mut self, system: &System<'_>, p: PartId)
+        requires partition { p < length system.now.config.sections }
+        requires early { system.now.tick ≤ LAST_TICK }
+        requires kept { IsKept system.now p self.old }
+        ensures kept { IsKept system.now p self.new }
+        ensures due { self.new.is_due ≡ self.old.is_due }
+        ensures seen { KeepsFigures self.old.observed self.new.observed }
+    {
+        self.observed.look_ahead(system, p);
+        if self.counted.tick() < system.tick().ticks() {
             self.count(system, p);
         }
     }
@@ -90,13 +108,26 @@ impl PartStatistics {
         requires early { system.now.tick ≤ LAST_TICK }
         requires last { tick ≤ LAST_TICK }
         requires kept { IsKept system.now p self.old }
-        ensures { IsKept system.now p self.new }
+        ensures kept { IsKept system.now p self.new }
+        ensures seen { IsSeenIfDue ⟦<Doing as PartialEq>⟧.eq system.now p tick to self.old self.new }
     {
         if self.is_due {
-            let own = self.counted.own();
-            self.observed.look(system, p, Moment { own, tick }, to);
-            self.count(system, p);
+            self.look_at_due(system, p, tick, to);
         }
+    }
+
+    /// Looks at the decision that the partition made at a tick.
+    fn look_at_due(&mut self, system: &System<'_>, p: PartId, tick: u64, to: u64)
+        requires partition { p < length system.now.config.sections }
+        requires early { system.now.tick ≤ LAST_TICK }
+        requires last { tick ≤ LAST_TICK }
+        requires kept { IsKept system.now p self.old }
+        ensures kept { IsKept system.now p self.new }
+        ensures seen { IsSeen ⟦<Doing as PartialEq>⟧.eq system.now p (moment_at tick self.old.counted) to self.old.observed self.new.observed }
+    {
+        let own = self.counted.own();
+        self.observed.look(system, p, Moment { own, tick }, to);
+        self.count(system, p);
     }
 
     /// Looks at the plain steps that the partition made, and the quiet call behind them, if it made some. It counts
@@ -106,13 +137,26 @@ impl PartStatistics {
         requires partition { p < length system.now.config.sections }
         requires early { system.now.tick ≤ LAST_TICK }
         requires kept { IsKept system.now p self.old }
-        ensures { IsKept system.now p self.new }
+        ensures kept { IsKept system.now p self.new }
+        ensures threads { self.new.observed.threads.items ≡ threads_behind_rows system.now p self.old }
     {
         let steps = system.steps(p);
         if steps == self.seen {
             return;
         }
         self.seen = steps;
+        self.look_at_new_row(system, p);
+    }
+
+    /// Looks at the last of the plain steps that the partition made, or at the quiet call behind them.
+    #[inline(always)]
+    fn look_at_new_row(&mut self, system: &System<'_>, p: PartId)
+        requires partition { p < length system.now.config.sections }
+        requires early { system.now.tick ≤ LAST_TICK }
+        requires kept { IsKept system.now p self.old }
+        ensures kept { IsKept system.now p self.new }
+        ensures threads { self.new.observed.threads.items ≡ threads_behind_row (state_of system.now p).part.last (state_of system.now p).part self.old.observed.threads.items }
+    {
         if let Some(call) = self.observed.look_at_row(system, p) {
             self.look_at_owners(system, p, call);
         }
@@ -124,7 +168,8 @@ impl PartStatistics {
         requires partition { p < length system.now.config.sections }
         requires early { system.now.tick ≤ LAST_TICK }
         requires kept { IsKept system.now p self.old }
-        ensures { IsKept system.now p self.new }
+        ensures kept { IsKept system.now p self.new }
+        ensures threads { self.new.observed.threads ≡ self.old.observed.threads }
     {
         self.count(system, p);
         let own = self.counted.own().saturating_sub(call.cost);
@@ -141,6 +186,7 @@ impl PartStatistics {
         requires kept { IsKept system.now p self.old }
         ensures kept { IsKept system.now p self.new }
         ensures tick { reached self.new.counted ≡ system.now.tick }
+        ensures same { self.new ≡ record self.old { counted = self.new.counted; seen = self.new.seen } }
     {
         advance(&mut self.counted, system, p);
         self.seen = self.counted.steps();
@@ -153,6 +199,7 @@ impl PartStatistics {
         requires kept { IsKept system.now p self.old }
         ensures kept { IsKept system.now p self.new }
         ensures tick { reached self.new.counted ≡ system.now.tick }
+        ensures finished { IsFinished self.old self.new }
     {
         self.count(system, p);
         let own = self.counted.own();

@@ -3,10 +3,11 @@
 ghost use Rattle.std.specs.Prelude.{◌≡◌, ℕ, ◌<◌, ◌≤◌, IfOk, length, max, slice_index_or};
 ghost use Rattle.ptk_words.specs.declared.TheConstants.{LAST_TICK};
 ghost use Rattle.ptk_main_runs.specs.World.{at_tick};
-ghost use Rattle.ptk_statistics_run.specs.Parts.{AgreesWith, AreEnded, AreKept, IsBefore};
+ghost use Rattle.ptk_statistics_run.specs.Parts.{AgreesWith, AreBehindRows, AreDecided, AreEnded, AreFinished, AreKept, AreSeenBy, IsBefore};
 
 use crate::part::{PartStatistics, Sight};
 use ptk_main_runs::System;
+use ptk_statistics_figures::Doing;
 use ptk_words::{ECALL, PartId, Tick};
 use std::alloc::{AllocError, Global};
 
@@ -94,6 +95,7 @@ impl Statistics {
         ensures on { tick < system.new.tick }
         ensures within { system.new.tick ≤ to }
         ensures kept { AreKept system.new self.new.parts.items }
+        ensures seen { AreDecided ⟦<Doing as PartialEq>⟧.eq system.old tick to self.old.parts.items self.new.parts.items }
     {
         self.look(system, Sight::Coming, to);
         system.run_to(Tick::new(tick + 1));
@@ -106,7 +108,8 @@ impl Statistics {
         requires early { system.now.tick ≤ LAST_TICK }
         requires last { IsBefore sight }
         requires kept { AreKept system.now self.old.parts.items }
-        ensures { AreKept system.now self.new.parts.items }
+        ensures kept { AreKept system.now self.new.parts.items }
+        ensures seen { AreSeenBy ⟦<Doing as PartialEq>⟧.eq system.now sight to self.old.parts.items self.new.parts.items }
     {
         look_all(self.parts.as_mut_slice(), system, sight, to);
     }
@@ -115,7 +118,8 @@ impl Statistics {
     fn look_at_rows(&mut self, system: &System<'_>)
         requires early { system.now.tick ≤ LAST_TICK }
         requires kept { AreKept system.now self.old.parts.items }
-        ensures { AreKept system.now self.new.parts.items }
+        ensures kept { AreKept system.now self.new.parts.items }
+        ensures rows { AreBehindRows system.now self.old.parts.items self.new.parts.items }
     {
         look_at_all_rows(self.parts.as_mut_slice(), system);
     }
@@ -124,7 +128,8 @@ impl Statistics {
     fn finish(&mut self, system: &System<'_>)
         requires early { system.now.tick ≤ LAST_TICK }
         requires kept { AreKept system.now self.old.parts.items }
-        ensures { AgreesWith system.now self.new }
+        ensures agrees { AgreesWith system.now self.new }
+        ensures finished { AreFinished self.old.parts.items self.new.parts.items }
     {
         system.states_are_alone();
         finish_all(self.parts.as_mut_slice(), system);
@@ -136,7 +141,8 @@ fn look_all(parts: &mut [PartStatistics], system: &System<'_>, sight: Sight, to:
     requires early { system.now.tick ≤ LAST_TICK }
     requires last { IsBefore sight }
     requires kept { AreKept system.now parts.old }
-    ensures { AreKept system.now parts.new }
+    ensures kept { AreKept system.now parts.new }
+    ensures seen { AreSeenBy ⟦<Doing as PartialEq>⟧.eq system.now sight to parts.old parts.new }
 {
     for i in 0..parts.len().min(system.parts()) {
         parts[i].look(system, PartId::new(i as u8), sight, to.ticks());
@@ -147,7 +153,8 @@ fn look_all(parts: &mut [PartStatistics], system: &System<'_>, sight: Sight, to:
 fn look_at_all_rows(parts: &mut [PartStatistics], system: &System<'_>)
     requires early { system.now.tick ≤ LAST_TICK }
     requires kept { AreKept system.now parts.old }
-    ensures { AreKept system.now parts.new }
+    ensures kept { AreKept system.now parts.new }
+    ensures rows { AreBehindRows system.now parts.old parts.new }
 {
     for i in 0..parts.len().min(system.parts()) {
         parts[i].look_at_row(system, PartId::new(i as u8));
@@ -160,6 +167,7 @@ fn finish_all(parts: &mut [PartStatistics], system: &System<'_>)
     requires kept { AreKept system.now parts.old }
     ensures kept { AreKept system.now parts.new }
     ensures ended { AreEnded system.now (length parts.new) parts.new }
+    ensures finished { AreFinished parts.old parts.new }
 {
     for i in 0..parts.len().min(system.parts()) {
         parts[i].finish(system, PartId::new(i as u8));

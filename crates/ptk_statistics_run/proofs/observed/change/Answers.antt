@@ -1,5 +1,4 @@
 use Rattle.std.proofs.Common.{◌≡◌, ◌∙◌, ap₂}
-use Rattle.std.specs.Prelude.{Bool}
 use Rattle.ptk_main_runs.specs.World.{state_of}
 use Rattle.ptk_statistics_figures.specs.Threads.{turned}
 use Rattle.ptk_statistics_figures.specs.declared.doing.Doing.{Doing}

@@ -1,4 +1,4 @@
-use Rattle.std.proofs.Common.{◌≡◌, List, ◌∙◌, ap, ap₂, subst}
+use Rattle.std.proofs.Common.{List, ◌∙◌, ap, ap₂, subst}
 use Rattle.ptk_main_runs.specs.World.{state_of}
 use Rattle.ptk_statistics_figures.specs.declared.mutex.MutexStatistics.{MutexStatistics}
 use Rattle.ptk_statistics_figures.specs.declared.thread.ThreadStatistics.{ThreadStatistics}

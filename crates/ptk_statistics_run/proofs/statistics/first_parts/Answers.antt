@@ -10,5 +10,5 @@ loop-i-preserved c =
       omega (arith, ap length pushed, length-append c.loop-i.parts.items (c.in_ok-new.field-0 ∷ []), c.loop-i.invariant.0),
       subst (AreEach (IsKept c.args.system.now)) (sym pushed)
           (each_more (IsKept c.args.system.now) c.loop-i.parts.items c.in_ok-new.field-0 c.loop-i.invariant.1
-          (subst (λ (p : ℕ). IsKept c.args.system.now p c.in_ok-new.field-0) number c.in_ok-new.ensures)),
+          (subst (λ (p : ℕ). IsKept c.args.system.now p c.in_ok-new.field-0) number c.in_ok-new.ensures.kept)),
     )

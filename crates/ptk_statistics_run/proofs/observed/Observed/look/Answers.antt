@@ -1,4 +1,4 @@
-use Rattle.std.proofs.Common.{◌≡◌, ◌∙◌, ap, ap₂, subst}
+use Rattle.std.proofs.Common.{◌∙◌, ap, ap₂, subst}
 use Rattle.std.specs.Prelude.{Option}
 use Rattle.ptk_words.specs.declared.sections.Entry.{Entry}
 use Rattle.ptk_main_runs.specs.World.{state_of}

@@ -1,11 +1,14 @@
-use Rattle.std.proofs.Common.{◌≡◌, ℕ, ◌∙◌, sym, ap, arith}
+use Rattle.std.proofs.Common.{◌≡◌, ℕ, ◌+◌, ◌∙◌, max, sym, subst, ap, arith}
 use Rattle.ptk_main_runs.specs.World.{World, at_tick}
 use Rattle.ptk_main_runs.proofs.Keeping.{at_again}
+use Rattle.ptk_statistics_figures.specs.contracts.doing.DoingPartialEq.TheImpl as doing_eq
+use Rattle.ptk_statistics_run.specs.declared.part.Sight.TheVariants.{Decided}
+use Rattle.ptk_statistics_run.specs.Parts.{AreSeenBy}
 use Rattle.ptk_statistics_run.proofs.Parts.{kept_later}
 use Rattle.ptk_statistics_run.proofs.statistics.Statistics.decide.Goals as goal
 
 pub look-requires-2-clause-kept : goal.look-requires-2-clause-kept
-look-requires-2-clause-kept c = kept_later c.args.system.now c.run_to.new.self _ c.look.new.self.parts.items c.run_to.ensures (omega arith) c.look.ensures
+look-requires-2-clause-kept c = kept_later c.args.system.now c.run_to.new.self _ c.look.new.self.parts.items c.run_to.ensures (omega arith) c.look.ensures.kept
 
 pub returns-clause-run : goal.returns-clause-run
 returns-clause-run c =
@@ -14,4 +17,13 @@ returns-clause-run c =
     at_again c.args.system.now c.run_to.new.self c.run_to-2.new.self _ first c.run_to-2.ensures
 
 pub returns-clause-kept : goal.returns-clause-kept
-returns-clause-kept c = kept_later c.run_to.new.self c.run_to-2.new.self _ c.look-2.new.self.parts.items c.run_to-2.ensures (omega arith) c.look-2.ensures
+returns-clause-kept c = kept_later c.run_to.new.self c.run_to-2.new.self _ c.look-2.new.self.parts.items c.run_to-2.ensures (omega arith) c.look-2.ensures.kept
+
+pub returns-clause-seen : goal.returns-clause-seen
+returns-clause-seen c =
+    let later : max c.args.system.now.tick c.new.result ≡ c.args.tick + 1 = omega (arith, c.requires.at, c.new.ensures) in
+    let there : c.run_to.new.self ≡ at_tick (c.args.tick + 1) c.args.system.now = c.run_to.ensures ∙ ap (λ (n : ℕ). at_tick n c.args.system.now) later in record {
+      ahead = c.look.new.self.parts.items;
+      coming = c.look.ensures.seen;
+      decided = subst (λ (world : World). AreSeenBy (doing_eq.ghosts).eq world (Decided c.args.tick) c.args.to c.look.new.self.parts.items c.look-2.new.self.parts.items) there c.look-2.ensures.seen;
+    }
