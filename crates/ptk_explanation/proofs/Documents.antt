@@ -9,7 +9,7 @@ use Rattle.serde_json.specs.Data.{Data}
 use Rattle.serde_json.specs.Written.{compact_text}
 use Rattle.ptk_words.specs.Names.{Byte, Pointer}
 use Rattle.ptk_words_model.specs.State.{Part}
-use Rattle.ptk_main_runs.specs.World.{World, section_at, state_of}
+use Rattle.ptk_explanation_facts.specs.World.{World, section_at, state_of}
 use Rattle.ptk_explanation_facts.specs.declared.facts.ThreadFacts.{ThreadFacts}
 use Rattle.ptk_explanation_facts.specs.declared.history.History.{History}
 use Rattle.ptk_explanation_facts.specs.Facts.{live_pc}

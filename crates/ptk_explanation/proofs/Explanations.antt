@@ -1,7 +1,7 @@
 -- An explanation, of what was pushed of a system after a run.
 use Rattle.std.proofs.Common.{◌≡◌, ℕ, List, [], ◌++◌, length, max, sym, ap, subst, ◌∙◌, arith}
 use Rattle.ptk_words.specs.Names.{Byte}
-use Rattle.ptk_main_runs.specs.World.{World, at_tick, state_of}
+use Rattle.ptk_explanation_facts.specs.World.{World, at_tick, state_of}
 use Rattle.ptk_explanation.specs.declared.answer.Form.{Form}
 use Rattle.ptk_explanation_facts.specs.declared.history.History.{History}
 use Rattle.ptk_explanation.specs.Explanations.{IsExplanation, IsSaid}

@@ -9,7 +9,7 @@ use Rattle.ptk_words_model.specs.State.{Part}
 use Rattle.ptk_words_model.specs.Text.{hex_word}
 use Rattle.ptk_mutex_priorities.specs.declared.slot.MutexState.{MutexState}
 use Rattle.ptk_symbols.specs.Tables.{place_text}
-use Rattle.ptk_main_runs.specs.World.{World, section_at, state_of}
+use Rattle.ptk_explanation_facts.specs.World.{World, section_at, state_of}
 use Rattle.ptk_explanation_facts.specs.declared.facts.TheConstants.{REGISTERS}
 use Rattle.ptk_explanation_facts.specs.declared.facts.ThreadFacts.{ThreadFacts}
 use Rattle.ptk_explanation_facts.specs.declared.history.History.{History}

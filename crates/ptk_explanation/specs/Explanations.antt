@@ -1,7 +1,7 @@
 -- An explanation in either form.
 use Rattle.std.specs.Prelude.{◌≡◌, ℕ, List, length}
 use Rattle.ptk_words.specs.Names.{Byte}
-use Rattle.ptk_main_runs.specs.World.{World, at_tick, state_of}
+use Rattle.ptk_explanation_facts.specs.World.{World, at_tick, state_of}
 use Rattle.ptk_explanation.specs.declared.answer.Form.{Form}
 use Rattle.ptk_explanation.specs.declared.answer.Form.TheVariants as form
 use Rattle.ptk_explanation_facts.specs.declared.history.History.{History}

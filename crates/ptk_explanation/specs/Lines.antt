@@ -10,10 +10,10 @@ use Rattle.ptk_words_model.specs.Text.{hex_word}
 use Rattle.ptk_mutex_priorities.specs.declared.slot.MutexState.{MutexState}
 use Rattle.ptk_disasm.specs.Spelling.{register_name}
 use Rattle.ptk_symbols.specs.Tables.{place_text}
-use Rattle.ptk_main_runs.specs.Activities.{activity_in}
-use Rattle.ptk_main_runs.specs.PartStatus.{PartStatus}
-use Rattle.ptk_main_runs.specs.PartStatus.TheVariants as status
-use Rattle.ptk_main_runs.specs.World.{World, section_at, state_of}
+use Rattle.ptk_explanation_facts.specs.Activities.{activity_in}
+use Rattle.ptk_explanation_facts.specs.PartStatus.{PartStatus}
+use Rattle.ptk_explanation_facts.specs.PartStatus.TheVariants as status
+use Rattle.ptk_explanation_facts.specs.World.{World, section_at, state_of}
 use Rattle.ptk_explanation_facts.specs.declared.facts.TheConstants.{REGISTERS}
 use Rattle.ptk_explanation_facts.specs.declared.facts.Awaited.{Awaited}
 use Rattle.ptk_explanation_facts.specs.declared.facts.ThreadFacts.{ThreadFacts}

@@ -11,10 +11,10 @@ use Rattle.ptk_words.specs.Processor.{Processor, register}
 use Rattle.ptk_words_model.specs.State.{Part}
 use Rattle.ptk_words_model.specs.Text.{cause_text}
 use Rattle.ptk_symbols.specs.Tables.{nearest}
-use Rattle.ptk_main_runs.specs.Activities.{thread_of_owner}
-use Rattle.ptk_main_runs.specs.PartStatus.{PartStatus}
-use Rattle.ptk_main_runs.specs.PartStatus.TheVariants as status
-use Rattle.ptk_main_runs.specs.World.{World, section_at, state_of}
+use Rattle.ptk_explanation_facts.specs.Activities.{thread_of_owner}
+use Rattle.ptk_explanation_facts.specs.PartStatus.{PartStatus}
+use Rattle.ptk_explanation_facts.specs.PartStatus.TheVariants as status
+use Rattle.ptk_explanation_facts.specs.World.{World, section_at, state_of}
 use Rattle.ptk_explanation_facts.specs.declared.facts.TheConstants.{REGISTERS}
 use Rattle.ptk_explanation_facts.specs.declared.facts.Awaited.{Awaited}
 use Rattle.ptk_explanation_facts.specs.declared.facts.ThreadFacts.{ThreadFacts}

@@ -20,10 +20,10 @@ use Rattle.ptk_words.specs.declared.threads.Policy.TheVariants.{Fifo, RoundRobin
 use Rattle.ptk_words.specs.declared.threads.Wait.{Wait}
 use Rattle.ptk_words.specs.declared.threads.Wait.TheVariants.{InputWait, SleepWait, JoinWait, MutexWait, ConditionWait, RelockWait}
 use Rattle.ptk_words_model.specs.Text.{fault_text}
-use Rattle.ptk_main_runs.specs.Activity.{Activity}
-use Rattle.ptk_main_runs.specs.Activity.TheVariants as activity
-use Rattle.ptk_main_runs.specs.PartStatus.{PartStatus}
-use Rattle.ptk_main_runs.specs.PartStatus.TheVariants as status
+use Rattle.ptk_explanation_facts.specs.Activity.{Activity}
+use Rattle.ptk_explanation_facts.specs.Activity.TheVariants as activity
+use Rattle.ptk_explanation_facts.specs.PartStatus.{PartStatus}
+use Rattle.ptk_explanation_facts.specs.PartStatus.TheVariants as status
 
 -- ---- names
 

@@ -3,18 +3,17 @@
 ghost use Rattle.std.specs.Prelude.{◌≡◌, ◌≢◌, ℕ, ◌<◌, ◌≤◌, ◌++◌, List, None, Some, IfErr, IfOk, IsSome, MatchResult, OnOk, length, max, string_bytes};
 ghost use Rattle.std.specs.Io.KnownBytes.{Appends};
 ghost use Rattle.ptk_words.specs.declared.TheConstants.{LAST_TICK};
-ghost use Rattle.ptk_main_runs.specs.Missing.{first_missing, missing_in};
-ghost use Rattle.ptk_main_runs.specs.declared.runs.RunFault.TheVariants.{NoPartition};
-ghost use Rattle.ptk_main_runs.specs.RunFaults.{missing_in_run};
-ghost use Rattle.ptk_main_runs.specs.Parts.{part_named};
-ghost use Rattle.ptk_main_runs.specs.World.{world_at};
+ghost use Rattle.ptk_explanation_facts.specs.Missing.{first_missing, missing_in};
+ghost use Rattle.ptk_explanation_facts.specs.RunFault.TheVariants.{NoPartition};
+ghost use Rattle.ptk_explanation_facts.specs.RunFaults.{missing_in_run};
+ghost use Rattle.ptk_explanation_facts.specs.Parts.{part_named};
+ghost use Rattle.ptk_explanation_facts.specs.World.{world_at};
 ghost use Rattle.ptk_explanation.specs.Explanations.{IsExplanation, IsSaid};
 
 use crate::document::push_document;
 use crate::lines::push_lines;
 use ptk_config::Config;
-use ptk_explanation_facts::{History, histories};
-use ptk_main_runs::{BootFault, Files, RunFault, System, part_named};
+use ptk_explanation_facts::{BootFault, Files, History, RunFault, System, histories, part_named};
 use ptk_symbols::Symbols;
 use ptk_words::{PartId, Tick};
 use std::alloc::{AllocError, Global};

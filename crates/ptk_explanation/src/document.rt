@@ -3,7 +3,7 @@
 ghost use Rattle.std.specs.Prelude.{◌≡◌, ◌<◌, ◌++◌, ◌==◌, ◌&&◌, IfOk, List, OnOk, codes, is_none, length, not, option_map, string_bytes};
 ghost use Rattle.serde_json.specs.Written.{compact_text, items_text};
 ghost use Rattle.ptk_words.specs.Names.{Byte};
-ghost use Rattle.ptk_main_runs.specs.World.{section_at, state_of};
+ghost use Rattle.ptk_explanation_facts.specs.World.{section_at, state_of};
 ghost use Rattle.ptk_explanation_facts.specs.Deadlocks.{cycle_from};
 ghost use Rattle.ptk_explanation.specs.Members.{shown_members};
 ghost use Rattle.ptk_explanation.specs.Objects.{IsBody, IsDeadlocksText, IsDocument, IsGoing, begun_text, ceiling_awaited, cycle_data, head_text, number_items, offset_at, owner_awaited, protocol_awaited, registers_text, stop_members, stop_text, stopped_text, symbol_at, text_in, thread_data, thread_members, threads_text, type_awaited, used_text};
@@ -14,10 +14,9 @@ use crate::members::{Member, MemberValue, comma_unless, push_members, push_text}
 use crate::target::Target;
 use crate::words::{ceiling_of, policy_name, protocol_name, type_name};
 use ptk_explanation_facts::{
-    Awaited, History, REGISTERS, Stop, ThreadFacts, begins_cycle, following, name_of, standing,
-    thread_count,
+    Awaited, History, PartStatus, REGISTERS, Stop, System, ThreadFacts, begins_cycle, cause_word,
+    following, name_of, standing, thread_count,
 };
-use ptk_main_runs::{PartStatus, System, cause_word};
 use ptk_symbols::Symbols;
 use ptk_words::{Cause, Cpu, Owner, PartId, ThreadNo};
 use std::alloc::{AllocError, Global};

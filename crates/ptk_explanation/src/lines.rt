@@ -2,7 +2,7 @@
 
 ghost use Rattle.std.specs.Prelude.{◌≡◌, ◌<◌, ◌++◌, List, OnOk, length, option_map, string_bytes};
 ghost use Rattle.ptk_words.specs.Names.{Byte};
-ghost use Rattle.ptk_main_runs.specs.World.{section_at, state_of};
+ghost use Rattle.ptk_explanation_facts.specs.World.{section_at, state_of};
 ghost use Rattle.ptk_explanation_facts.specs.Deadlocks.{cycle_from};
 ghost use Rattle.ptk_explanation_facts.specs.Facts.{live_pc};
 ghost use Rattle.ptk_explanation.specs.Lines.{AreBody, AreDeadlocks, AreGoing, AreLines, activity_line, address_line, begun_line, ceiling_text, cycle_line, head_line, instruction_text, known_line, line_end, live_text, mutex_line, pending_line, register_column, register_lines, register_text, scheduling_line, semicolon_if, stand_text, state_line, step_line, stop_lines, stopped_lines, thread_lines, threads_lines, used_lines, waiting_text, waits_text};
@@ -13,10 +13,9 @@ use crate::words::{
     Doing, Headline, ceiling_of, policy_name, protocol_name, refusal_words, type_name,
 };
 use ptk_explanation_facts::{
-    Awaited, History, REGISTERS, Stop, ThreadFacts, awaited_in, begins_cycle, following, name_of,
-    standing, thread_count,
+    Awaited, History, MutexState, PartStatus, REGISTERS, Stop, System, ThreadFacts, awaited_in,
+    begins_cycle, following, name_of, standing, thread_count,
 };
-use ptk_main_runs::{MutexState, PartStatus, System};
 use ptk_symbols::Symbols;
 use ptk_text::Word;
 use ptk_words::{Cause, Cpu, MutexNo, PartId, SP, ThreadNo};

@@ -4,7 +4,7 @@ ghost use Rattle.std.specs.Prelude.{◌≡◌};
 ghost use Rattle.ptk_words.specs.Threads.{condition_of_wait, deadline_of_wait};
 ghost use Rattle.ptk_explanation.specs.Targets.{aim_in, aim_of, aim_of_wait, joined_by, mutex_named, no_aim, word_of_wait};
 
-use ptk_main_runs::Activity;
+use ptk_explanation_facts::Activity;
 use ptk_words::Wait;
 
 /// What a wait is for.

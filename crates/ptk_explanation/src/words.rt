@@ -4,8 +4,7 @@ ghost use Rattle.std.specs.Prelude.{◌≡◌, Some, option_and_then};
 ghost use Rattle.ptk_explanation_facts.specs.Facts.{owner_of};
 ghost use Rattle.ptk_explanation.specs.Words.{activity_words, ceiling_in, headline_words, image_words, name_of_policy, name_of_protocol, name_of_type, owner_words, stop_words, until_words, wait_words, words_of_refusal};
 
-use ptk_explanation_facts::Awaited;
-use ptk_main_runs::{Activity, PartStatus, cause_word};
+use ptk_explanation_facts::{Activity, Awaited, PartStatus, cause_word};
 use ptk_words::{
     Cause, FaultKind, ImageFault, LAST_TICK, MutexKind, Owner, Policy, Protocol, Tick, Wait,
 };

@@ -4,3 +4,11 @@ pub mod Histories
 pub mod Refusals
 pub mod Standing
 pub mod Stops
+pub use Rattle.ptk_main_runs.specs.Activities
+pub use Rattle.ptk_main_runs.specs.Activity
+pub use Rattle.ptk_main_runs.specs.Missing
+pub use Rattle.ptk_main_runs.specs.PartStatus
+pub use Rattle.ptk_main_runs.specs.Parts
+pub use Rattle.ptk_main_runs.specs.RunFaults
+pub use Rattle.ptk_main_runs.specs.World
+pub use Rattle.ptk_main_runs.specs.declared.runs.RunFault

@@ -26,4 +26,7 @@ mod status;
 pub use cycles::{begins_cycle, following};
 pub use facts::{Awaited, REGISTERS, Stop, ThreadFacts, awaited_in, thread_count};
 pub use history::{History, histories};
+pub use ptk_main_runs::{
+    Activity, BootFault, Files, MutexState, PartStatus, RunFault, System, cause_word, part_named,
+};
 pub use status::{name_of, standing};

@@ -9,9 +9,9 @@ use Rattle.std.proofs.lemmas.List.FromFn.{get_or-range_with_len, length-range_wi
 use Rattle.std.proofs.lemmas.List.{get_or_read, take_all}
 use denote.Ref.{Bor}
 use Rattle.ptk_config.specs.Configuration.{Configuration}
-use Rattle.ptk_main_runs.specs.PartStatus.{PartStatus}
-use Rattle.ptk_main_runs.specs.Told.{status_in}
-use Rattle.ptk_main_runs.specs.World.{World, section_at, state_of}
+use Rattle.ptk_statistics_run.specs.PartStatus.{PartStatus}
+use Rattle.ptk_statistics_run.specs.Told.{status_in}
+use Rattle.ptk_statistics_run.specs.World.{World, section_at, state_of}
 use Rattle.ptk_statistics_run.specs.declared.part.PartStatistics.{PartStatistics}
 use Rattle.ptk_statistics_run.specs.declared.statistics.Statistics.{Statistics}
 use Rattle.ptk_statistics.specs.Asked.{is_asked}

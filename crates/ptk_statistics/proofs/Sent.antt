@@ -19,14 +19,14 @@ use Rattle.ptk_statistics_figures.specs.declared.moment.Span.{Span}
 use Rattle.ptk_statistics_figures.specs.declared.moment.Spread.{Spread}
 use Rattle.ptk_statistics_figures.specs.declared.mutex.MutexStatistics.{MutexStatistics}
 use Rattle.ptk_statistics_figures.specs.declared.thread.ThreadStatistics.{ThreadStatistics}
-use Rattle.ptk_main_runs.specs.declared.members.Value.{Value}
-use Rattle.ptk_main_runs.specs.PartStatus.{PartStatus}
+use Rattle.ptk_statistics_run.specs.Value.{Value}
+use Rattle.ptk_statistics_run.specs.PartStatus.{PartStatus}
 use Rattle.ptk_statistics_figures.specs.CallNames.{name_of}
 use Rattle.ptk_statistics_figures.specs.Counts.{counted_ticks, steps_by_thread, steps_in}
 use Rattle.ptk_statistics_figures.specs.Lengths.{mean_of}
 use Rattle.ptk_statistics_figures.specs.Mutexes.{is_mutex_used}
 use Rattle.ptk_statistics_figures.specs.Threads.{calls_at, is_used}
-use Rattle.ptk_main_runs.specs.Members.{SendsAll, optional_value, value_event}
+use Rattle.ptk_statistics_run.specs.Members.{SendsAll, optional_value, value_event}
 use Rattle.ptk_statistics.specs.Words.{word_of_doing, word_of_outcome}
 use Rattle.ptk_statistics.specs.Document.{InArray, InObject, SendsActivations, SendsCall, SendsCalls, SendsCounted, SendsFigures, SendsIf, SendsMutex, SendsMutexAt, SendsMutexes, SendsThread, SendsThreadAt, SendsThreads, SendsTicks, SendsUsedMutex, SendsUsedThread, all_members, call_items, longest_member, number_member, object_member, pair_member, standing_members, word_member}
 

@@ -12,9 +12,9 @@ use denote.Ref.{Bor}
 use Rattle.ptk_words.specs.Names.{newline}
 use Rattle.ptk_words.specs.declared.TheConstants.{LAST_TICK, THREAD_LIMIT}
 use Rattle.ptk_words_windows.specs.Windows.{own_ticks}
-use Rattle.ptk_main_runs.specs.PartStatus.{PartStatus}
-use Rattle.ptk_main_runs.specs.Told.{status_in}
-use Rattle.ptk_main_runs.specs.World.{World, section_at, state_of}
+use Rattle.ptk_statistics_run.specs.PartStatus.{PartStatus}
+use Rattle.ptk_statistics_run.specs.Told.{status_in}
+use Rattle.ptk_statistics_run.specs.World.{World, section_at, state_of}
 use Rattle.ptk_statistics_figures.specs.declared.counted.Counted.{Counted}
 use Rattle.ptk_statistics_figures.specs.declared.doing.Doing.{Doing}
 use Rattle.ptk_statistics_figures.specs.declared.moment.Longest.{Longest}

@@ -3,7 +3,7 @@ use Rattle.std.specs.Prelude.{ℕ, Bool, true, List, Option, Some, None, IsSome}
 use Rattle.std.specs.Str.{bytes_eq}
 use denote.Ref.{Bor}
 use Rattle.ptk_config.specs.Configuration.{Configuration}
-use Rattle.ptk_main_runs.specs.Parts.{part_named}
+use Rattle.ptk_statistics_run.specs.PartNames.{part_named}
 
 -- a partition has the name that is asked for, or none is asked for (own)
 abbrev pub IsAsked : Configuration → Option (Bor (List ℕ)) → Type 0

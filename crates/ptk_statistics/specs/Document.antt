@@ -20,8 +20,8 @@ use Rattle.ptk_statistics_figures.specs.Counts.{counted_ticks, steps_by_thread, 
 use Rattle.ptk_statistics_figures.specs.Lengths.{mean_of}
 use Rattle.ptk_statistics_figures.specs.Mutexes.{is_mutex_used}
 use Rattle.ptk_statistics_figures.specs.Threads.{calls_at, is_used, other_calls, time_of}
-use Rattle.ptk_main_runs.specs.Members.{SendsAll, optional_value, value_event}
-use Rattle.ptk_main_runs.specs.PartStatus.{PartStatus}
+use Rattle.ptk_statistics_run.specs.Members.{SendsAll, optional_value, value_event}
+use Rattle.ptk_statistics_run.specs.PartStatus.{PartStatus}
 use Rattle.ptk_statistics.specs.declared.words.TheConstants.{KINDS}
 use Rattle.ptk_statistics.specs.Words.{word_of_doing, word_of_outcome}
 use Rattle.ptk_statistics_run.specs.declared.part.PartStatistics.{PartStatistics}

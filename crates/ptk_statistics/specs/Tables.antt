@@ -21,9 +21,9 @@ use Rattle.ptk_statistics_figures.specs.CallNames.{name_of}
 use Rattle.ptk_statistics_figures.specs.Counts.{counted_ticks, steps_by_thread, steps_in}
 use Rattle.ptk_statistics_figures.specs.Lengths.{mean_of}
 use Rattle.ptk_statistics_figures.specs.Threads.{calls_at, is_used, other_calls, time_of}
-use Rattle.ptk_main_runs.specs.PartStatus.{PartStatus}
-use Rattle.ptk_main_runs.specs.Told.{status_in}
-use Rattle.ptk_main_runs.specs.World.{World, section_at, state_of}
+use Rattle.ptk_statistics_run.specs.PartStatus.{PartStatus}
+use Rattle.ptk_statistics_run.specs.Told.{status_in}
+use Rattle.ptk_statistics_run.specs.World.{World, section_at, state_of}
 use Rattle.ptk_statistics.specs.declared.words.TheConstants.{KINDS}
 use Rattle.ptk_statistics.specs.declared.blocks.Cell.{Cell}
 use Rattle.ptk_statistics.specs.declared.blocks.Cell.TheVariants.{First, Number, Word, Stack}

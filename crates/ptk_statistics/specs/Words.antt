@@ -1,7 +1,7 @@
 -- The words for what a thread does, and for how a partition stands.
 use Rattle.std.specs.Prelude.{ℕ, List, codes}
-use Rattle.ptk_main_runs.specs.PartStatus.{PartStatus}
-use Rattle.ptk_main_runs.specs.PartStatus.TheVariants as status
+use Rattle.ptk_statistics_run.specs.PartStatus.{PartStatus}
+use Rattle.ptk_statistics_run.specs.PartStatus.TheVariants as status
 use Rattle.ptk_statistics_figures.specs.declared.doing.Doing.{Doing}
 use Rattle.ptk_statistics_figures.specs.declared.doing.Doing.TheVariants as doing
 

@@ -3,11 +3,11 @@
 ghost use Rattle.std.specs.Prelude.{◌≡◌, ◌≢◌, ℕ, ◌<◌, ◌≤◌, ◌↔◌, List, ◌++◌, None, IfErr, IfOk, IsTrue, MatchResult, OnOk, length};
 ghost use Rattle.std.specs.Io.KnownBytes.{Appends};
 ghost use Rattle.ptk_words.specs.declared.TheConstants.{LAST_TICK};
-ghost use Rattle.ptk_main_runs.specs.declared.runs.RunFault.TheVariants.{NoPartition};
-ghost use Rattle.ptk_main_runs.specs.Missing.{first_missing};
-ghost use Rattle.ptk_main_runs.specs.RunFaults.{missing_in_run};
-ghost use Rattle.ptk_main_runs.specs.World.{section_at, state_of, world_at};
-ghost use Rattle.ptk_main_runs.specs.Told.{status_in};
+ghost use Rattle.ptk_statistics_run.specs.RunFault.TheVariants.{NoPartition};
+ghost use Rattle.ptk_statistics_run.specs.Missing.{first_missing};
+ghost use Rattle.ptk_statistics_run.specs.RunFaults.{missing_in_run};
+ghost use Rattle.ptk_statistics_run.specs.World.{section_at, state_of, world_at};
+ghost use Rattle.ptk_statistics_run.specs.Told.{status_in};
 ghost use Rattle.ptk_statistics.specs.Asked.{IsAsked, is_asked};
 ghost use Rattle.ptk_statistics.specs.Answered.{IsObjectAt, PutsAsked, PutsDocument, PutsObjects, PutsRun, beginning_text, comma_before, is_place_asked};
 ghost use Rattle.ptk_statistics.specs.Document.{IsObject};
@@ -16,8 +16,9 @@ ghost use Rattle.ptk_statistics.specs.Tables.{PutsBlocks, PutsIfCounted, PutsTab
 use crate::blocks::put_block;
 use crate::document::{Figures, json_of};
 use ptk_config::Config;
-use ptk_main_runs::{BootFault, Files, PutFault, RunFault, System, part_named};
-use ptk_statistics_run::{PartStatistics, Statistics};
+use ptk_statistics_run::{
+    BootFault, Files, PartStatistics, PutFault, RunFault, Statistics, System, part_named,
+};
 use ptk_words::{PartId, Tick};
 use std::alloc::Global;
 use std::io;

@@ -3,15 +3,14 @@
 ghost use Rattle.std.specs.Prelude.{◌≡◌, IfOk, OnOk, string_bytes};
 ghost use Rattle.json.specs.Lex.{tokens};
 ghost use Rattle.json.specs.Print.{print};
-ghost use Rattle.ptk_main_runs.specs.Members.{SendsAll};
+ghost use Rattle.ptk_statistics_run.specs.Members.{SendsAll};
 ghost use Rattle.ptk_statistics.specs.Document.{IsObject, SendsActivations, SendsCalls, SendsCounted, SendsFigures, SendsMutexes, SendsThreads, SendsTicks, SendsUsedMutex, SendsUsedThread, call_items, longest_member, pair_member};
 
 use crate::words::{KINDS, doing_word, outcome_word};
-use ptk_main_runs::{PartStatus, Value, put_members, put_object};
 use ptk_statistics_figures::{
     CALLS, CallCount, Counted, Longest, MutexStatistics, Span, Spread, ThreadStatistics, call_name,
 };
-use ptk_statistics_run::PartStatistics;
+use ptk_statistics_run::{PartStatistics, PartStatus, Value, put_members, put_object};
 use ptk_words::{THREAD_LIMIT, ThreadNo};
 use serde::{Described, Serialize, Serializer};
 use serde_json::Error;

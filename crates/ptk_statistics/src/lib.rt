@@ -25,8 +25,7 @@ mod document;
 mod words;
 
 pub use answer::{Form, stats_with};
-pub use ptk_main_runs::{Files, PartStatus, RunFault, System};
 pub use ptk_statistics_figures::{
     CallCount, Counted, Doing, Longest, MutexStatistics, Span, Spread, ThreadStatistics,
 };
-pub use ptk_statistics_run::{PartStatistics, Statistics};
+pub use ptk_statistics_run::{Files, PartStatistics, PartStatus, RunFault, Statistics, System};

@@ -3,8 +3,8 @@
 ghost use Rattle.std.specs.Prelude.{◌≡◌};
 ghost use Rattle.ptk_statistics.specs.Words.{word_of_doing, word_of_outcome};
 
-use ptk_main_runs::PartStatus;
 use ptk_statistics_figures::Doing;
+use ptk_statistics_run::PartStatus;
 
 /// The kinds of what a live thread does, in the order of the tables.
 pub(crate) const KINDS: [Doing; 8] = [

@@ -23,4 +23,8 @@ mod part;
 mod statistics;
 
 pub use part::PartStatistics;
+pub use ptk_main_runs::{
+    BootFault, Files, PartStatus, PutFault, RunFault, System, Value, part_named, put_members,
+    put_object,
+};
 pub use statistics::Statistics;

@@ -1,6 +1,6 @@
 use Rattle.std.proofs.Common.{refl}
 use Rattle.std.specs.Prelude.{string_bytes}
-use Rattle.ptk_main_runs.specs.World.{world_at}
+use Rattle.ptk_explanation_facts.specs.World.{world_at}
 use Rattle.ptk_explanation.proofs.Explanations.{booted_told}
 use Rattle.ptk_explanation.proofs.answer.answer_of.Goals as goal
 

@@ -1,6 +1,6 @@
 use Rattle.std.proofs.Common.{sym, subst}
 use Rattle.std.proofs.lemmas.Result.{on_ok_weaker}
-use Rattle.ptk_main_runs.specs.World.{world_at}
+use Rattle.ptk_explanation_facts.specs.World.{world_at}
 use Rattle.ptk_explanation.specs.declared.answer.Form.{Form}
 use Rattle.ptk_explanation.specs.Explanations.{IsExplanation}
 use Rattle.ptk_explanation.proofs.answer.explain_partition_with.Goals as goal

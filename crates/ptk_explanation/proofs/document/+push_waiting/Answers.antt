@@ -1,7 +1,7 @@
 use Rattle.std.proofs.Common.{codes}
 use Rattle.std.specs.Prelude.{string_bytes}
 use Rattle.std.proofs.lemmas.Result.{on_ok_weaker}
-use Rattle.ptk_main_runs.specs.World.{state_of}
+use Rattle.ptk_explanation_facts.specs.World.{state_of}
 use Rattle.ptk_explanation.proofs.Arrays.{cycle_last, cycle_more, cycle_none, waiting_put}
 use Rattle.ptk_explanation.proofs.Objects.{ok_pushed}
 use Rattle.ptk_explanation.proofs.document.+push_waiting.Goals as goal

@@ -1,7 +1,7 @@
 use Rattle.std.proofs.Common.{codes, refl, arith}
 use Rattle.std.specs.Prelude.{string_bytes}
 use Rattle.std.proofs.lemmas.Result.{on_ok_weaker}
-use Rattle.ptk_main_runs.specs.World.{state_of}
+use Rattle.ptk_explanation_facts.specs.World.{state_of}
 use Rattle.ptk_explanation.proofs.Arrays.{cycle_added, cycles_last, cycles_pushed}
 use Rattle.ptk_explanation_facts.proofs.Begins.{begun_decides, begun_same, is_begun}
 use Rattle.ptk_explanation.proofs.Objects.{ok_pushed}

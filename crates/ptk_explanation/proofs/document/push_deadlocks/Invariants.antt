@@ -1,6 +1,6 @@
 use Rattle.std.proofs.Common.{◌≡◌, ◌++◌, true}
 use Rattle.std.specs.Prelude.{string_bytes}
-use Rattle.ptk_main_runs.specs.World.{state_of}
+use Rattle.ptk_explanation_facts.specs.World.{state_of}
 use Rattle.ptk_explanation.proofs.Arrays.{cycles_from}
 use Rattle.ptk_explanation_facts.proofs.Begins.{is_begun}
 use Rattle.ptk_explanation.proofs.document.push_deadlocks.Given as goal

@@ -2,7 +2,7 @@ use Rattle.std.proofs.Common.{◌≡◌, ◌+◌, ◌<◌, ◌∙◌, codes, len
 use Rattle.std.specs.Prelude.{string_bytes}
 use Rattle.std.proofs.lemmas.List.{get_or_default}
 use Rattle.std.proofs.lemmas.Result.{on_ok_weaker}
-use Rattle.ptk_main_runs.specs.World.{state_of}
+use Rattle.ptk_explanation_facts.specs.World.{state_of}
 use Rattle.ptk_explanation_facts.specs.Facts.{facts_of}
 use Rattle.ptk_explanation_facts.specs.Histories.{no_history}
 use Rattle.ptk_explanation.proofs.Arrays.{thread_last, thread_more, threads_pushed}

@@ -1,6 +1,6 @@
 use Rattle.std.proofs.Common.{◌≡◌, ◌++◌, true}
 use Rattle.std.specs.Prelude.{string_bytes}
-use Rattle.ptk_main_runs.specs.World.{state_of}
+use Rattle.ptk_explanation_facts.specs.World.{state_of}
 use Rattle.ptk_explanation.proofs.Arrays.{threads_from}
 use Rattle.ptk_explanation.proofs.document.push_threads.Given as goal
 

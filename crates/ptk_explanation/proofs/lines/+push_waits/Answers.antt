@@ -2,7 +2,7 @@ use Rattle.std.proofs.Common.{List, ◌++◌, ◌∙◌, ap}
 use Rattle.std.specs.Prelude.{string_bytes}
 use Rattle.std.proofs.lemmas.Result.{on_ok_weaker}
 use Rattle.ptk_words.specs.Names.{Byte}
-use Rattle.ptk_main_runs.specs.World.{state_of}
+use Rattle.ptk_explanation_facts.specs.World.{state_of}
 use Rattle.ptk_explanation.proofs.Texts.{waits_last, waits_more, waits_none}
 use Rattle.ptk_explanation.proofs.lines.+push_waits.Goals as goal
 

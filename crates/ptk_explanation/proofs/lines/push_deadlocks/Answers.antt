@@ -1,6 +1,6 @@
 use Rattle.std.proofs.Common.{refl, arith}
 use Rattle.std.specs.Prelude.{string_bytes}
-use Rattle.ptk_main_runs.specs.World.{state_of}
+use Rattle.ptk_explanation_facts.specs.World.{state_of}
 use Rattle.ptk_explanation_facts.proofs.Begins.{begun_decides, begun_same, is_begun}
 use Rattle.ptk_explanation.proofs.Texts.{begun_at, begun_pushed, deadlocks_told, text_more}
 use Rattle.ptk_explanation.proofs.lines.push_deadlocks.Goals as goal

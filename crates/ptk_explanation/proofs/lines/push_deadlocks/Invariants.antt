@@ -1,6 +1,6 @@
 use Rattle.std.proofs.Common.{◌≡◌, ◌++◌}
 use Rattle.std.specs.Prelude.{string_bytes}
-use Rattle.ptk_main_runs.specs.World.{state_of}
+use Rattle.ptk_explanation_facts.specs.World.{state_of}
 use Rattle.ptk_explanation_facts.proofs.Begins.{is_begun}
 use Rattle.ptk_explanation.proofs.Texts.{begun_at, texts_from}
 use Rattle.ptk_explanation.proofs.lines.push_deadlocks.Given as goal

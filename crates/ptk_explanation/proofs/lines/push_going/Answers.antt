@@ -1,6 +1,6 @@
 use Rattle.std.specs.Prelude.{string_bytes}
 use Rattle.std.proofs.lemmas.Result.{on_ok_weaker}
-use Rattle.ptk_main_runs.specs.World.{state_of}
+use Rattle.ptk_explanation_facts.specs.World.{state_of}
 use Rattle.ptk_explanation.proofs.Texts.{going_told}
 use Rattle.ptk_explanation.proofs.lines.push_going.Goals as goal
 

@@ -1,7 +1,7 @@
 use Rattle.std.proofs.Common.{◌<◌, ◌∙◌, length, refl, arith}
 use Rattle.std.specs.Prelude.{string_bytes}
 use Rattle.std.proofs.lemmas.List.{get_or_default}
-use Rattle.ptk_main_runs.specs.World.{state_of}
+use Rattle.ptk_explanation_facts.specs.World.{state_of}
 use Rattle.ptk_explanation_facts.specs.Histories.{no_history}
 use Rattle.ptk_explanation.specs.Lines.{lines_at}
 use Rattle.ptk_explanation.proofs.Texts.{text_more, threads_told, used_at}

@@ -1,6 +1,6 @@
 use Rattle.std.proofs.Common.{◌≡◌, ◌++◌}
 use Rattle.std.specs.Prelude.{string_bytes}
-use Rattle.ptk_main_runs.specs.World.{state_of}
+use Rattle.ptk_explanation_facts.specs.World.{state_of}
 use Rattle.ptk_explanation.specs.Lines.{lines_at}
 use Rattle.ptk_explanation.proofs.Texts.{texts_from}
 use Rattle.ptk_explanation.proofs.lines.push_threads.Given as goal

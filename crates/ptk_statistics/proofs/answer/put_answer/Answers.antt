@@ -1,5 +1,5 @@
 use Rattle.std.proofs.Common.{◌∙◌, ap}
-use Rattle.ptk_main_runs.specs.World.{at_tick, world_at}
+use Rattle.ptk_statistics_run.specs.World.{at_tick, world_at}
 use Rattle.ptk_statistics.proofs.Answered.{run_put}
 use Rattle.ptk_statistics.proofs.Tables.{tables_put}
 use Rattle.ptk_statistics.proofs.answer.put_answer.Goals as goal

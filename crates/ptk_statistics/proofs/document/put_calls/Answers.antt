@@ -3,7 +3,7 @@ use Rattle.std.proofs.lemmas.Result.{on_ok_weaker}
 use Rattle.serde.specs.Event.{Then, WritesEach}
 use Rattle.ptk_statistics_figures.specs.declared.calls.TheConstants.{CALLS}
 use Rattle.ptk_statistics_figures.specs.Threads.{other_calls}
-use Rattle.ptk_main_runs.specs.Members.{SendsAll}
+use Rattle.ptk_statistics_run.specs.Members.{SendsAll}
 use Rattle.ptk_statistics.specs.Document.{SendsCall, call_items}
 use Rattle.ptk_statistics.proofs.Sent.{calls_sent, each_all, each_next, in_array, named_call_sent}
 use Rattle.ptk_statistics.proofs.document.put_calls.Goals as goal

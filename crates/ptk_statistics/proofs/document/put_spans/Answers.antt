@@ -3,7 +3,7 @@ use Rattle.std.proofs.lemmas.Result.{on_ok_weaker}
 use Rattle.serde.specs.Event.{WritesEach}
 use Rattle.ptk_statistics_figures.specs.declared.doing.Doing.{Doing}
 use Rattle.ptk_statistics_figures.specs.Threads.{time_of}
-use Rattle.ptk_main_runs.specs.Members.{SendsAll}
+use Rattle.ptk_statistics_run.specs.Members.{SendsAll}
 use Rattle.ptk_statistics.specs.declared.words.TheConstants.{KINDS}
 use Rattle.ptk_statistics.specs.Document.{pair_member}
 use Rattle.ptk_statistics.specs.Words.{word_of_doing}
