@@ -2,3 +2,5 @@ pub mod Lists
 pub mod Lines
 pub mod Texts
 pub mod Values
+pub mod JsonNames
+pub mod Holding

@@ -8,6 +8,8 @@ use Rattle.ptk_main_runs.specs.PartStatus.{PartStatus}
 use Rattle.ptk_main_runs.specs.PartStatus.TheVariants as status
 use Rattle.ptk_words.specs.declared.threads.Wait.{Wait}
 use Rattle.ptk_words.specs.declared.threads.Wait.TheVariants.{InputWait, SleepWait, JoinWait, MutexWait, ConditionWait, RelockWait}
+use Rattle.ptk_timeline_formats.specs.declared.sheet.Form.{Form}
+use Rattle.ptk_timeline_formats.specs.declared.sheet.Form.TheVariants.{Vcd, Events}
 use Rattle.ptk_timeline_formats.specs.declared.shown.Doing.{Doing}
 use Rattle.ptk_timeline_formats.specs.declared.shown.Doing.TheVariants as doing
 use Rattle.ptk_timeline_formats.specs.declared.shown.Shown.{Shown}
@@ -25,6 +27,11 @@ is_signal (Next t kept shown) = true
 is_signal (Woken by t) = false
 is_signal (Lost ticks) = false
 is_signal (Dropped bytes) = false
+
+-- what is between the first values and what changes: a dump ends its values (IEEE 1364-2005, 18.2.1)
+abbrev pub text_behind_first : Form → List ℕ
+text_behind_first Vcd = codes "$end\n"
+text_behind_first Events = []
 
 -- the line that what follows is of a tick (IEEE 1364-2005, 18.2.1)
 abbrev pub tick_line : ℕ → List ℕ

@@ -3,6 +3,7 @@
 ghost use Rattle.std.specs.Prelude.{◌≡◌, ◌<◌, length};
 ghost use Rattle.ptk_main_runs.specs.World.{state_of};
 ghost use Rattle.ptk_timeline_formats.specs.Shown.{doing_of, is_step_of, shown_in};
+ghost use Rattle.ptk_timeline_formats.specs.Events.{word_of_doing, word_of_wait};
 ghost use Rattle.ptk_timeline_formats.specs.Signals.{state_number, wait_number};
 
 use crate::step::Step;
@@ -39,7 +40,8 @@ pub(crate) struct Label {
 impl Label {
     /// The number and the word of a wait.
     fn of_wait(wait: &Wait) -> Label
-        ensures { result.number ≡ wait_number wait.now }
+        ensures number { result.number ≡ wait_number wait.now }
+        ensures word { result.word.now ≡ word_of_wait wait.now }
     {
         let (number, word) = match wait {
             Wait::InputWait => (4, "console"),
@@ -56,7 +58,8 @@ impl Label {
 impl Doing {
     /// Its word and number.
     pub(crate) fn label(&self) -> Label
-        ensures { result.number ≡ state_number self.now }
+        ensures number { result.number ≡ state_number self.now }
+        ensures word { result.word.now ≡ word_of_doing self.now }
     {
         let (number, word) = match self {
             Doing::Free => (0, "free"),
