@@ -33,12 +33,15 @@ pub(crate) struct Sheet<'a, 's> {
 ghost use Rattle.std.specs.Prelude.{◌≡◌, ◌<◌, ◌≤◌, false, OnOk};
 ghost use Rattle.std.specs.Io.KnownBytes.{Appends};
 ghost use Rattle.ptk_words.specs.declared.TheConstants.{LAST_TICK};
-ghost use Rattle.ptk_timeline_formats.specs.declared.sheet.Form.TheVariants.{Vcd};
-ghost use Rattle.ptk_timeline_formats.specs.Signals.{change_lines, changes_lines, is_signal, tick_behind, tick_behind_all, tick_line};
+ghost use Rattle.ptk_timeline_formats.specs.declared.sheet.Form.TheVariants.{Vcd, Events};
+ghost use Rattle.ptk_timeline_formats.specs.Events.{change_events};
+ghost use Rattle.ptk_timeline_formats.specs.Signals.{change_lines, changes_lines, is_signal, text_behind_first, tick_behind, tick_behind_all, tick_line};
 
 impl Form {
     /// What is between the first values and what changes.
-    pub(crate) fn behind_first(self) -> &'static [u8] {
+    pub(crate) fn behind_first(self) -> &'static [u8]
+        ensures { result.now ≡ text_behind_first self }
+    {
         match self {
             Form::Vcd => b"$end\n",
             Form::Events => b"",
@@ -84,7 +87,9 @@ impl<'a, 's> Sheet<'a, 's> {
     }
 
     /// The format.
-    pub(crate) fn form(&self) -> Form {
+    pub(crate) fn form(&self) -> Form
+        ensures { result ≡ self.now.form }
+    {
         self.form
     }
 
@@ -96,7 +101,7 @@ impl<'a, 's> Sheet<'a, 's> {
         }
     }
 
-    /// Writes what changes of a partition at a tick, in this order. What it writes of events is tested.
+    /// Writes what changes of a partition at a tick, in this order.
     #[tactic(auto, using(crate::proofs::Lines::one_more, crate::proofs::Lines::none_more))]
     pub(crate) fn put_each<W: Write>(
         &mut self,
@@ -124,7 +129,7 @@ impl<'a, 's> Sheet<'a, 's> {
     }
 
     /// Writes what changes of a partition at a tick, after the line of the tick where the format has one. A dump writes
-    /// nothing of a change that no signal shows. What it writes of events is tested.
+    /// nothing of a change that no signal shows.
     pub(crate) fn put<W: Write>(
         &mut self,
         p: PartId,
@@ -142,6 +147,10 @@ impl<'a, 's> Sheet<'a, 's> {
         ensures dump { self.old.form ≡ Vcd → OnOk result (Appends (W.contents out.old) (W.contents out.new)
             (change_lines self.old.at tick p change.now)) }
         ensures unseen { self.old.form ≡ Vcd → is_signal change.now ≡ false → (out.new ≡ out.old) × (self.new ≡ self.old) }
+        ensures symbols { self.new.symbols.now ≡ self.old.symbols.now }
+        ensures reached { self.old.form ≡ Events → self.new.at ≡ tick }
+        ensures events { self.old.form ≡ Events → OnOk result (Appends (W.contents out.old) (W.contents out.new)
+            (change_events self.old.symbols.now p tick change.now)) }
     {
         match self.form {
             Form::Vcd => {
@@ -167,6 +176,7 @@ impl<'a, 's> Sheet<'a, 's> {
         ensures form { self.new.form ≡ self.old.form }
         ensures line { self.old.at < tick → OnOk result (Appends (W.contents out.old) (W.contents out.new) (tick_line tick)) }
         ensures none { tick ≤ self.old.at → out.new ≡ out.old }
+        ensures symbols { self.new.symbols.now ≡ self.old.symbols.now }
     {
         let is_later = self.at < tick;
         self.at = tick;

@@ -4,7 +4,8 @@ ghost use Rattle.std.specs.Prelude.{◌≡◌, ◌+◌, ◌<◌, ◌≤◌, None
 ghost use Rattle.std.specs.Io.KnownBytes.{Appends};
 ghost use Rattle.ptk_words.specs.declared.TheConstants.{LAST_TICK, THREAD_LIMIT};
 ghost use Rattle.ptk_main_runs.specs.World.{state_of};
-ghost use Rattle.ptk_timeline_formats.specs.declared.sheet.Form.TheVariants.{Vcd};
+ghost use Rattle.ptk_timeline_formats.specs.declared.sheet.Form.TheVariants.{Vcd, Events};
+ghost use Rattle.ptk_timeline_formats.specs.Events.{ends_by_itself, has_come, is_woken, waker_of, waking_text};
 ghost use Rattle.ptk_timeline_formats.specs.Shown.{AreShown, is_step_of, shown_in};
 ghost use Rattle.ptk_timeline_formats.specs.Signals.{lines_at, shown_lines};
 ghost use Rattle.ptk_timeline_formats.specs.Texts.{thread_text, threads_text};
@@ -14,7 +15,7 @@ use crate::sheet::Sheet;
 use crate::shown::{Doing, Shown};
 use crate::step::Step;
 use ptk_main_runs::{PutFault, System};
-use ptk_words::{PartId, THREAD_LIMIT, ThreadNo, Wait};
+use ptk_words::{PartId, THREAD_LIMIT, ThreadNo, Tick, Wait};
 use std::alloc::{AllocError, Global};
 use std::io::Write;
 
@@ -159,6 +160,9 @@ fn put_waking<W: Write>(
     ensures to { sheet.new.to ≡ sheet.old.to }
     ensures form { sheet.new.form ≡ sheet.old.form }
     ensures unseen { sheet.old.form ≡ Vcd → (out.new ≡ out.old) × (sheet.new ≡ sheet.old) }
+    ensures symbols { sheet.new.symbols.now ≡ sheet.old.symbols.now }
+    ensures events { sheet.old.form ≡ Events → OnOk result (Appends (W.contents out.old) (W.contents out.new)
+        (waking_text p t tick (waker_of (is_woken (⟦<Doing as PartialEq>⟧.eq before.now after.now) tick before.now) t step.now))) }
 {
     match waker_of(t, before, after, step, tick) {
         Some(by) => sheet.put(p, tick, &Change::Woken(by, t), out),
@@ -174,19 +178,29 @@ fn waker_of(
     after: &Doing,
     step: &Option<Step>,
     tick: u64,
-) -> Option<ThreadNo> {
-    let by = step.as_ref()?.thread;
-    if by.number() == t.number() || !is_woken(before, after, tick) {
+) -> Option<ThreadNo>
+    ensures { result ≡ waker_of (is_woken (⟦<Doing as PartialEq>⟧.eq before.now after.now) tick before.now) t step.now }
+{
+    let Some(step) = step else {
+        return None;
+    };
+    if step.thread.number() == t.number() {
         return None;
     }
-    Some(by)
+    is_woken(before, after, tick).then_some(step.thread)
 }
 
 /// Whether a wait has ended at a tick that does not end by itself there.
-fn is_woken(before: &Doing, after: &Doing, tick: u64) -> bool {
+fn is_woken(before: &Doing, after: &Doing, tick: u64) -> bool
+    ensures { result ≡ is_woken (⟦<Doing as PartialEq>⟧.eq before.now after.now) tick before.now }
+{
     match before {
-        Doing::Blocked(Wait::InputWait) => false,
-        Doing::Blocked(wait) => *before != *after && !is_over(wait, tick),
+        Doing::Blocked(wait) => {
+            if *before == *after {
+                return false;
+            }
+            !ends_by_itself(wait, tick)
+        }
         Doing::Free
         | Doing::Running
         | Doing::Suspended
@@ -196,9 +210,24 @@ fn is_woken(before: &Doing, after: &Doing, tick: u64) -> bool {
     }
 }
 
-/// Whether a wait's deadline has come by a tick.
-fn is_over(wait: &Wait, tick: u64) -> bool {
-    match wait.deadline() {
+/// Whether a wait ends by itself by a tick: it is for input, or its deadline has come.
+fn ends_by_itself(wait: &Wait, tick: u64) -> bool
+    ensures { result ≡ ends_by_itself tick wait.now }
+{
+    match wait {
+        Wait::InputWait => true,
+        Wait::SleepWait(deadline) => deadline.ticks() <= tick,
+        Wait::MutexWait(_, deadline) => has_come(*deadline, tick),
+        Wait::ConditionWait(_, _, deadline) => has_come(*deadline, tick),
+        Wait::JoinWait(_) | Wait::RelockWait(_, _) => false,
+    }
+}
+
+/// Whether there is a deadline, and it has come by a tick.
+fn has_come(deadline: Option<Tick>, tick: u64) -> bool
+    ensures { result ≡ has_come tick deadline }
+{
+    match deadline {
         Some(deadline) => deadline.ticks() <= tick,
         None => false,
     }
