@@ -1,8 +1,11 @@
 //! What is shown of all partitions.
 
-ghost use Rattle.std.specs.Prelude.{◌≡◌, ◌+◌, ◌<◌, ◌≤◌, IfOk, OnOk, length};
+ghost use Rattle.std.specs.Prelude.{◌≡◌, ◌≢◌, ℕ, ◌+◌, ◌<◌, ◌≤◌, None, Some, IfOk, OnOk, length, slice_index_or};
+ghost use Rattle.std.specs.Io.KnownBytes.{Appends};
 ghost use Rattle.ptk_words.specs.declared.TheConstants.{LAST_TICK};
-ghost use Rattle.ptk_main_runs.specs.World.{state_of};
+ghost use Rattle.ptk_timeline_formats.specs.declared.sheet.Form.TheVariants.{Vcd, Events};
+ghost use Rattle.ptk_timeline_formats.specs.declared.view.PartView.{PartView};
+ghost use Rattle.ptk_timeline_formats.specs.Holders.{closing_events, closing_lines, is_open, opened, opening_events, opening_lines, tick_behind_closing};
 
 use crate::change::Change;
 use crate::sheet::Sheet;
@@ -146,6 +149,11 @@ impl Board {
         requires to { end ≤ sheet.old.to }
         ensures within { sheet.new.at ≤ end }
         ensures to { sheet.new.to ≡ sheet.old.to }
+        ensures holder { self.new.holder ≡ self.old.holder }
+        ensures count { length self.new.views.items ≡ length self.old.views.items }
+        ensures others { (place : ℕ) (default : PartView) → place ≢ p →
+            slice_index_or self.new.views.items place default ≡ slice_index_or self.old.views.items place default }
+        ensures config { system.new.config ≡ system.old.config }
     {
         let place = p.index();
         if place < self.views.len() && place < system.parts() {
@@ -154,7 +162,18 @@ impl Board {
         Ok(())
     }
 
+    /// Whether the window of a partition is open.
+    fn is_open(&self, p: PartId) -> bool
+        ensures { result ≡ is_open p self.now.holder }
+    {
+        match &self.holder {
+            Some(holder) => holder.partition.index() == p.index(),
+            None => false,
+        }
+    }
+
     /// From a tick on it is this partition's window.
+    #[tactic(auto, using(crate::proofs::Holding::opened_anew, crate::proofs::Holding::opened_still))]
     fn open_window<W: Write>(
         &mut self,
         p: PartId,
@@ -166,11 +185,14 @@ impl Board {
         requires to { tick ≤ sheet.old.to }
         ensures within { sheet.new.at ≤ tick }
         ensures to { sheet.new.to ≡ sheet.old.to }
+        ensures holder { OnOk result (self.new ≡ record self.old { holder = Some (opened p tick self.old.holder) }) }
+        ensures dump { sheet.old.form ≡ Vcd → OnOk result (Appends (W.contents out.old) (W.contents out.new)
+            (opening_lines sheet.old.at tick p self.old.holder)) }
+        ensures events { sheet.old.form ≡ Events → OnOk result (Appends (W.contents out.old) (W.contents out.new)
+            (opening_events sheet.old.symbols.now tick p self.old.holder)) }
     {
-        if let Some(holder) = &self.holder {
-            if holder.partition.index() == p.index() {
-                return Ok(());
-            }
+        if self.is_open(p) {
+            return Ok(());
         }
         self.close_window(tick, sheet, out)?;
         self.holder = Some(Holder {
@@ -191,6 +213,14 @@ impl Board {
         requires to { tick ≤ sheet.old.to }
         ensures within { sheet.new.at ≤ tick }
         ensures to { sheet.new.to ≡ sheet.old.to }
+        ensures form { sheet.new.form ≡ sheet.old.form }
+        ensures symbols { sheet.new.symbols.now ≡ sheet.old.symbols.now }
+        ensures holder { self.new ≡ record self.old { holder = None } }
+        ensures behind { sheet.old.form ≡ Vcd → sheet.new.at ≡ tick_behind_closing sheet.old.at tick self.old.holder }
+        ensures dump { sheet.old.form ≡ Vcd → OnOk result (Appends (W.contents out.old) (W.contents out.new)
+            (closing_lines sheet.old.at tick self.old.holder)) }
+        ensures events { sheet.old.form ≡ Events → OnOk result (Appends (W.contents out.old) (W.contents out.new)
+            (closing_events sheet.old.symbols.now tick self.old.holder)) }
     {
         let Some(holder) = self.holder else {
             return Ok(());
