@@ -1,6 +1,6 @@
 -- Whose window it is behind the begin of one.
 use Rattle.std.proofs.Common.{◌≡◌, ℕ, Bool, true, false, Option, Some, None, refl, ap}
-use Rattle.std.specs.Prelude.{◌==◌, if◌then◌else◌}
+use Rattle.std.specs.Prelude.{if◌then◌else◌}
 use Rattle.ptk_timeline_formats.specs.declared.board.Holder.{Holder}
 use Rattle.ptk_timeline_formats.specs.Holders.{is_open, opened}
 
