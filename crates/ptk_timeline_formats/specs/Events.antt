@@ -260,6 +260,11 @@ change_events symbols p tick (Woken by t) = flow_text p by t tick
 change_events symbols p tick (Lost ticks) = instant_text p tick (codes "ticks lost") (codes "ticks") ticks
 change_events symbols p tick (Dropped bytes) = instant_text p tick (codes "input lost") (codes "bytes") bytes
 
+-- the events of a thread that is shown otherwise than before: its track's name where no thread had the number, else the slice of what was shown (own)
+abbrev pub shown_events : List (ℕ × List ℕ) → ℕ → ℕ → ℕ → ShownSince → Shown → Option ℕ → List ℕ
+shown_events symbols p t tick kept shown start =
+    if is_free kept.shown.doing then start_text symbols (thread_track p t) shown start else slice_text (thread_track p t) kept tick
+
 -- ---- the head of a trace
 
 -- an instant at a tick at which this many bytes of input come, if it is one from a tick on and before another (own)

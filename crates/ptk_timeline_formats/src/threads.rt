@@ -3,9 +3,10 @@
 ghost use Rattle.std.specs.Prelude.{◌≡◌, ◌+◌, ◌<◌, ◌≤◌, None, All, IfOk, OnOk, if◌then◌else◌, length, min, take, vec_len};
 ghost use Rattle.std.specs.Io.KnownBytes.{Appends};
 ghost use Rattle.ptk_words.specs.declared.TheConstants.{LAST_TICK, THREAD_LIMIT};
+ghost use Rattle.ptk_main_runs.specs.Told.{pc_in};
 ghost use Rattle.ptk_main_runs.specs.World.{state_of};
 ghost use Rattle.ptk_timeline_formats.specs.declared.sheet.Form.TheVariants.{Vcd, Events};
-ghost use Rattle.ptk_timeline_formats.specs.Events.{ends_by_itself, has_come, is_woken, waker_of, waking_text};
+ghost use Rattle.ptk_timeline_formats.specs.Events.{ends_by_itself, has_come, is_woken, shown_events, waker_of, waking_text};
 ghost use Rattle.ptk_timeline_formats.specs.Shown.{AreShown, is_step_of, shown_in};
 ghost use Rattle.ptk_timeline_formats.specs.Signals.{lines_at, shown_lines};
 ghost use Rattle.ptk_timeline_formats.specs.Texts.{thread_text, threads_text};
@@ -135,6 +136,9 @@ fn put_shown<W: Write>(
     ensures behind { sheet.old.form ≡ Vcd → sheet.new.at ≡ tick }
     ensures dump { sheet.old.form ≡ Vcd → OnOk result (Appends (W.contents out.old) (W.contents out.new)
         (lines_at sheet.old.at tick (shown_lines p t kept.now.shown shown.now))) }
+    ensures symbols { sheet.new.symbols.now ≡ sheet.old.symbols.now }
+    ensures events { sheet.old.form ≡ Events → OnOk result (Appends (W.contents out.old) (W.contents out.new)
+        (shown_events sheet.old.symbols.now p t tick kept.now shown.now (pc_in t (state_of system.now p).part))) }
 {
     if matches!(kept.shown.doing, Doing::Free) {
         let start = system.pc(p, t);
