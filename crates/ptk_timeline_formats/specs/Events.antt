@@ -7,10 +7,11 @@ use Rattle.json.specs.Print.{quoted}
 use Rattle.ptk_words.specs.Names.{ThreadNumber}
 use Rattle.ptk_words.specs.declared.threads.Wait.{Wait}
 use Rattle.ptk_words.specs.declared.threads.Wait.TheVariants.{InputWait, SleepWait, JoinWait, MutexWait, ConditionWait, RelockWait}
+use Rattle.ptk_words_model.specs.State.{Part}
 use Rattle.ptk_symbols.specs.Tables.{nearest}
 use Rattle.ptk_main_runs.specs.PartStatus.{PartStatus}
 use Rattle.ptk_main_runs.specs.Shown.{shown_status}
-use Rattle.ptk_main_runs.specs.Told.{is_halted}
+use Rattle.ptk_main_runs.specs.Told.{is_halted, pc_in}
 use Rattle.ptk_timeline_formats.specs.declared.change.Change.{Change}
 use Rattle.ptk_timeline_formats.specs.declared.change.Change.TheVariants.{WindowBegins, WindowEnds, Status, Runner, First, Next, Woken, Lost, Dropped}
 use Rattle.ptk_timeline_formats.specs.declared.change.ShownSince.{ShownSince}
@@ -242,7 +243,7 @@ waker_of woken t None = None
 waker_of woken t (Some step) = if step.thread == t then None else then_some woken step.thread
 
 -- the flow to a thread from the one that has ended its wait; nothing where none has (own)
-abbrev pub waking_text : ℕ → ℕ → ℕ → Option ThreadNumber → List ℕ
+unfoldable pub waking_text : ℕ → ℕ → ℕ → Option ThreadNumber → List ℕ
 waking_text p t tick None = []
 waking_text p t tick (Some by) = flow_text p by t tick
 
@@ -261,9 +262,15 @@ change_events symbols p tick (Lost ticks) = instant_text p tick (codes "ticks lo
 change_events symbols p tick (Dropped bytes) = instant_text p tick (codes "input lost") (codes "bytes") bytes
 
 -- the events of a thread that is shown otherwise than before: its track's name where no thread had the number, else the slice of what was shown (own)
-abbrev pub shown_events : List (ℕ × List ℕ) → ℕ → ℕ → ℕ → ShownSince → Shown → Option ℕ → List ℕ
+unfoldable pub shown_events : List (ℕ × List ℕ) → ℕ → ℕ → ℕ → ShownSince → Shown → Option ℕ → List ℕ
 shown_events symbols p t tick kept shown start =
     if is_free kept.shown.doing then start_text symbols (thread_track p t) shown start else slice_text (thread_track p t) kept tick
+
+-- the events at a tick of a thread of a partition in a state, of which this is kept and this is shown now: none where it is the same, else those of what was shown, and of who has ended its wait (own)
+abbrev pub thread_events : Bool → Bool → List (ℕ × List ℕ) → Option Step → Part → ℕ → ℕ → ℕ → ShownSince → Shown → List ℕ
+thread_events is_same does_same symbols step s p t tick kept after =
+    if is_same then []
+    else (shown_events symbols p t tick kept after (pc_in t s) ++ waking_text p t tick (waker_of (is_woken does_same tick kept.shown.doing) t step))
 
 -- ---- the head of a trace
 

@@ -6,7 +6,7 @@ ghost use Rattle.ptk_words.specs.declared.TheConstants.{LAST_TICK, THREAD_LIMIT}
 ghost use Rattle.ptk_main_runs.specs.Told.{pc_in};
 ghost use Rattle.ptk_main_runs.specs.World.{state_of};
 ghost use Rattle.ptk_timeline_formats.specs.declared.sheet.Form.TheVariants.{Vcd, Events};
-ghost use Rattle.ptk_timeline_formats.specs.Events.{ends_by_itself, has_come, is_woken, shown_events, waker_of, waking_text};
+ghost use Rattle.ptk_timeline_formats.specs.Events.{ends_by_itself, has_come, is_woken, shown_events, thread_events, waker_of, waking_text};
 ghost use Rattle.ptk_timeline_formats.specs.Shown.{AreShown, is_step_of, shown_in};
 ghost use Rattle.ptk_timeline_formats.specs.Signals.{lines_at, shown_lines};
 ghost use Rattle.ptk_timeline_formats.specs.Texts.{thread_text, threads_text};
@@ -96,6 +96,10 @@ fn show_thread<W: Write>(
     ensures dump { let after = shown_in (is_step_of step.now t) t (state_of system.now p).part in
         sheet.old.form ≡ Vcd → OnOk result (Appends (W.contents out.old) (W.contents out.new)
         (thread_text (⟦<Shown as PartialEq>⟧.eq after kept.now.shown) sheet.old.at tick p t kept.now.shown after)) }
+    ensures events { let after = shown_in (is_step_of step.now t) t (state_of system.now p).part in
+        sheet.old.form ≡ Events → OnOk result (Appends (W.contents out.old) (W.contents out.new)
+        (thread_events (⟦<Shown as PartialEq>⟧.eq after kept.now.shown) (⟦<Doing as PartialEq>⟧.eq kept.now.shown.doing after.doing)
+        sheet.old.symbols.now step.now (state_of system.now p).part p t tick kept.now after)) }
 {
     let shown = Shown::of(system, p, t, step);
     if shown == kept.shown {
@@ -117,6 +121,7 @@ fn show_thread<W: Write>(
 }
 
 /// Writes what is shown of a thread of which something else was shown.
+#[tactic(auto, unfolding(crate::specs::Events::shown_events))]
 fn put_shown<W: Write>(
     kept: &ShownSince,
     shown: &Shown,
@@ -148,6 +153,7 @@ fn put_shown<W: Write>(
 }
 
 /// Writes which thread's step has ended the wait of a thread, where one has. A dump has nothing of it.
+#[tactic(auto, unfolding(crate::specs::Events::waking_text))]
 fn put_waking<W: Write>(
     before: &Doing,
     after: &Doing,
