@@ -6,7 +6,7 @@ use Rattle.ptk_config.specs.Configuration.{Configuration}
 use Rattle.ptk_statistics.specs.Answered.{PutsRun}
 use Rattle.ptk_statistics.specs.declared.answer.Form.{Form as Figures}
 use Rattle.ptk_statistics.specs.declared.answer.Form.TheVariants as figures
-use Rattle.ptk_explanation.specs.Objects.{IsExplanation}
+use Rattle.ptk_explanation.specs.Explanations.{IsExplanation}
 use Rattle.ptk_explanation.specs.declared.answer.Form.{Form as Standing}
 use Rattle.ptk_explanation.specs.declared.answer.Form.TheVariants as standing
 use Rattle.ptk_main_line.specs.declared.requests.ExplainOptions.{ExplainOptions}
@@ -41,7 +41,7 @@ standing_in form.Json = standing.Json
 -- the object of the partition of this name after this many ticks is written (own)
 abbrev pub PutsStanding : List (ℕ × List ℕ) → Configuration → List NamedFile → ℕ → List ℕ → Option (List ℕ) → Option (List ℕ) → Type 0
 PutsStanding symbols config files ticks name old new =
-    (p : ℕ) × (part_named config name ≡ Some p) × (text : List ℕ) × IsExplanation symbols (world_at config files 0) ticks p text × Appends old new text
+    (p : ℕ) × (part_named config name ≡ Some p) × (text : List ℕ) × IsExplanation standing.Json symbols (world_at config files 0) ticks p text × Appends old new text
 
 -- with these images nothing is refused, and as JSON how the partition stands is written, with the symbols of a text (own)
 pub record IsExplanationOf (options : ExplainOptions) (config : Configuration) (old new : Option (List ℕ)) (files : List NamedFile) : Type 0 where

@@ -45,13 +45,14 @@ fn stats_config<'a, W: Write>(
 {
     let files = images_of(rt, config, options.run.root)?;
     let ticks = Tick::new(options.run.ticks);
+    let form = figures_in(options.format);
     stats_answer(
         rt.alloc(),
         config,
         &files,
         ticks,
         options.partition,
-        options.format,
+        form,
         out,
     )
 }
@@ -63,17 +64,16 @@ fn stats_answer<'a, W: Write>(
     files: &Files,
     ticks: Tick,
     name: Option<&'a str>,
-    format: Format,
+    form: Form,
     out: &mut W,
 ) -> Result<(), Fault<'a>>
     requires { ticks ≤ LAST_TICK }
     ensures refused { let refusal = option_map_or (λ word. refused_trace (part_named config.now word.now) config.now files.now word.now)
         name.entry (missing_image config.now files.now) in
         MatchResult result (λ _. refusal ≡ None) (IsFaultOf refusal refusal) }
-    ensures json { OnOk result (format ≡ Format.Json →
+    ensures json { OnOk result (form ≡ Form.Json →
         PutsRun (world_at config.now files.now ticks) name.entry (W.contents out.old) (W.contents out.new)) }
 {
-    let form = figures_in(format);
     match name {
         Some(name) => stats_of_one(alloc, config, files, ticks, name, form, out),
         None => stats_of_all(alloc, config, files, ticks, form, out),

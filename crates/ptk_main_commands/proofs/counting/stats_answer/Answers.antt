@@ -1,8 +1,20 @@
-use Rattle.ptk_main_commands.proofs.Answered.{figures_by}
+use Rattle.std.proofs.Common.{◌≡◌, List, ℕ, Option, Bor, subst, sym}
+use Rattle.std.specs.Prelude.{OnOk}
+use Rattle.ptk_statistics.specs.Answered.{PutsRun}
+use Rattle.ptk_statistics.specs.declared.answer.Form.TheVariants.{Json}
+use Rattle.ptk_main_files.specs.World.{world_at}
 use Rattle.ptk_main_commands.proofs.counting.stats_answer.Goals as goal
 
 pub returns-in-Some-clause-json : goal.returns-in-Some-clause-json
-returns-in-Some-clause-json g c = figures_by _ c.args.format c.figures_in-form.result c.stats_of_one.result c.figures_in-form.ensures c.stats_of_one.ensures.json
+returns-in-Some-clause-json g c =
+    subst
+    (λ (name : Option (Bor (List ℕ))). OnOk c.stats_of_one.result (c.args.form ≡ Json
+        → PutsRun (world_at c.args.config.now c.args.files.now c.args.ticks) name (g.W.Write.contents c.args.out.now) (g.W.Write.contents c.stats_of_one.new.out)))
+    (sym c.in-Some.is) c.stats_of_one.ensures.json
 
 pub returns-in-None-clause-json : goal.returns-in-None-clause-json
-returns-in-None-clause-json g c = figures_by _ c.args.format c.figures_in-form.result c.stats_of_all.result c.figures_in-form.ensures c.stats_of_all.ensures.json
+returns-in-None-clause-json g c =
+    subst
+    (λ (name : Option (Bor (List ℕ))). OnOk c.stats_of_all.result (c.args.form ≡ Json
+        → PutsRun (world_at c.args.config.now c.args.files.now c.args.ticks) name (g.W.Write.contents c.args.out.now) (g.W.Write.contents c.stats_of_all.new.out)))
+    (sym c.in-None.is) c.stats_of_all.ensures.json
