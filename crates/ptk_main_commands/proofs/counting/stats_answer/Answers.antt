@@ -9,12 +9,12 @@ pub returns-in-Some-clause-json : goal.returns-in-Some-clause-json
 returns-in-Some-clause-json g c =
     subst
     (λ (name : Option (Bor (List ℕ))). OnOk c.stats_of_one.result (c.args.form ≡ Json
-        → PutsRun (world_at c.args.config.now c.args.files.now c.args.ticks) name (g.W.Write.contents c.args.out.now) (g.W.Write.contents c.stats_of_one.new.out)))
+    → PutsRun (world_at c.args.config.now c.args.files.now c.args.ticks) name (g.W.Write.contents c.args.out.now) (g.W.Write.contents c.stats_of_one.new.out)))
     (sym c.in-Some.is) c.stats_of_one.ensures.json
 
 pub returns-in-None-clause-json : goal.returns-in-None-clause-json
 returns-in-None-clause-json g c =
     subst
     (λ (name : Option (Bor (List ℕ))). OnOk c.stats_of_all.result (c.args.form ≡ Json
-        → PutsRun (world_at c.args.config.now c.args.files.now c.args.ticks) name (g.W.Write.contents c.args.out.now) (g.W.Write.contents c.stats_of_all.new.out)))
+    → PutsRun (world_at c.args.config.now c.args.files.now c.args.ticks) name (g.W.Write.contents c.args.out.now) (g.W.Write.contents c.stats_of_all.new.out)))
     (sym c.in-None.is) c.stats_of_all.ensures.json
