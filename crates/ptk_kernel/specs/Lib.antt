@@ -6,3 +6,4 @@ pub use Rattle.ptk_gate.specs.Kept
 pub mod Events
 pub use Rattle.ptk_gate.specs.Decisions
 pub use Rattle.ptk_gate.specs.Blank
+pub use Rattle.ptk_clock.specs.ByThread

@@ -7,3 +7,4 @@ pub mod Shown
 pub mod Loaded
 pub mod Laws
 pub mod BootNumbers
+pub use Rattle.ptk_system_machine.specs.ByThread
