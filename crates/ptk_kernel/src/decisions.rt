@@ -4,6 +4,7 @@ ghost use Rattle.std.specs.Prelude.{◌≡◌, ◌<◌, ◌≤◌, true, length,
 ghost use Rattle.ptk_words_model.specs.Decision.{runner_of, ready_at, after_turn, spent_in_turn, after_decision, spent_by_decision};
 ghost use Rattle.ptk_words.specs.Faults.{is_active};
 ghost use Rattle.ptk_gate.specs.Kept.{part_at, put_part, limits_at};
+ghost use Rattle.ptk_gate.specs.Decisions.{longest_step};
 ghost use Rattle.ptk_gate.specs.Chosen.{IsChosen};
 ghost use Rattle.ptk_gate.specs.NextSteps.{IsCallNext, next_step_in};
 ghost use Rattle.ptk_kernel.specs.Spending.{cost_in};
@@ -22,7 +23,7 @@ pub fn decide(tables: &mut Tables, p: PartId, tick: Tick, room: u32) -> Spent
     requires room { 1 ≤ room }
     ensures told { result ≡ spent_by_decision (limits_at p tables.old) tick room (part_at p tables.old) }
     ensures moved { tables.new ≡ put_part p (after_decision (limits_at p tables.old) tick room (part_at p tables.old)) tables.old }
-    ensures short { cost_in result ≤ 16 }
+    ensures short { cost_in result ≤ longest_step }
 {
     let _parts = tables.parts();
     prepare(tables, p, tick);
@@ -52,7 +53,7 @@ pub fn take_turn(tables: &mut Tables, p: PartId, tick: Tick, room: u32) -> Spent
     requires partition { p < length tables.old.limits }
     ensures told { result ≡ spent_in_turn (limits_at p tables.old) tick room (runner_of (part_at p tables.old)) (part_at p tables.old) }
     ensures moved { tables.new ≡ put_part p (after_turn (limits_at p tables.old) tick room (runner_of (part_at p tables.old)) (part_at p tables.old)) tables.old }
-    ensures short { cost_in result ≤ 16 }
+    ensures short { cost_in result ≤ longest_step }
 {
     let next = tables.next_step(p);
     match next {
@@ -71,7 +72,7 @@ pub fn take_call(tables: &mut Tables, p: PartId, t: ThreadNo, tick: Tick, room: 
     requires call { IsCallNext t (part_at p tables.old) }
     ensures told { result ≡ spent_in_turn (limits_at p tables.old) tick room (runner_of (part_at p tables.old)) (part_at p tables.old) }
     ensures moved { tables.new ≡ put_part p (after_turn (limits_at p tables.old) tick room (runner_of (part_at p tables.old)) (part_at p tables.old)) tables.old }
-    ensures short { cost_in result ≤ 16 }
+    ensures short { cost_in result ≤ longest_step }
 {
     tables.take_call(p, t, tick, room)
 }
@@ -83,7 +84,7 @@ fn begin_step(tables: &mut Tables, p: PartId, tick: Tick, room: u32, next: &Next
     requires next { next_step_in (part_at p tables.old) ≡ Some next.now }
     ensures told { result ≡ spent_in_turn (limits_at p tables.old) tick room (runner_of (part_at p tables.old)) (part_at p tables.old) }
     ensures moved { tables.new ≡ put_part p (after_turn (limits_at p tables.old) tick room (runner_of (part_at p tables.old)) (part_at p tables.old)) tables.old }
-    ensures short { cost_in result ≤ 16 }
+    ensures short { cost_in result ≤ longest_step }
 {
     let cost = step_cost(next.kind);
     if room < cost {

@@ -110,7 +110,8 @@ impl<'a> System<'a> {
     }
 
     /// Goes on as `compute_to` does, but over plain steps of one window at most and the quiet call behind them, which
-    /// is the last step. So whoever looks at the system sees each call by itself.
+    /// is the last step. So whoever looks at the system sees each call by itself. At each tick on the way each thread
+    /// does what it did at the first one.
     pub fn call_to(&mut self, n: Tick)
         requires { n ≤ LAST_TICK }
         ensures from { self.old.tick ≤ self.new.tick }
@@ -119,6 +120,7 @@ impl<'a> System<'a> {
             (state_of self.old p).account.next ≡ Some self.old.tick →
             IsPlainAt (section_at self.old.config p).limits self.old.tick (state_of self.old p).part) → self.old.tick < self.new.tick }
         ensures run { self.new ≡ at_tick self.new.tick self.old }
+        ensures steady { (p : ℕ) → p < length self.old.config.sections → GoesOnAsIs self.old p self.new.tick }
     {
         if n.ticks() <= self.tick.ticks() {
             return;

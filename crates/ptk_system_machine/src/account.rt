@@ -4,6 +4,7 @@ ghost use Rattle.std.specs.Prelude.{◌≡◌, ◌<◌, ◌≤◌, ◌^◌, ◌+
 ghost use Rattle.ptk_words.specs.declared.TheConstants.{LAST_TICK};
 ghost use Rattle.ptk_words_model.specs.Run.{last_of};
 ghost use Rattle.ptk_kernel.specs.Kept.{part_at};
+ghost use Rattle.ptk_kernel.specs.Decisions.{longest_step};
 ghost use Rattle.ptk_kernel.specs.Spending.{cost_in};
 ghost use Rattle.ptk_system_machine.specs.Accounts.{first_account, spent_account, duration_of};
 
@@ -140,7 +141,7 @@ impl Account {
 /// The ticks that a decision with this room takes up.
 pub(crate) fn duration(room: u32, spent: Spent) -> u32
     requires near { room ≤ 1000000 }
-    requires short { cost_in spent ≤ 16 }
+    requires short { cost_in spent ≤ longest_step }
     ensures value { result ≡ duration_of room spent }
     ensures near { result ≤ 1000000 }
 {

@@ -12,6 +12,7 @@ ghost use Rattle.ptk_words_batches.specs.Prepared.{prepared};
 ghost use Rattle.ptk_words_batches.specs.Idle.{IsIdle};
 ghost use Rattle.ptk_kernel.specs.Kept.{limits_at, part_at, put_part};
 ghost use Rattle.ptk_kernel.specs.Rows.{IsCallNext, IsChosen, IsStill, IsStillTo};
+ghost use Rattle.ptk_kernel.specs.Decisions.{longest_step};
 ghost use Rattle.ptk_kernel.specs.Spending.{cost_in};
 ghost use Rattle.ptk_system_machine.specs.Accounts.{IsBehind};
 ghost use Rattle.ptk_system_machine.specs.Steady.{AreSteady, states_from};
@@ -671,7 +672,7 @@ fn free_from(tables: &Tables, p: PartId, tick: Tick, room: u32, spent: Spent, to
     requires partition { p < length tables.now.limits }
     requires time { tick ≤ LAST_TICK }
     requires near { room ≤ 1000000 }
-    requires short { cost_in spent ≤ 16 }
+    requires short { cost_in spent ≤ longest_step }
     ensures free { IsFreeFrom tick room spent to (part_at p tables.now) result }
     ensures full { (k : ℕ) → spent ≡ Spent.Idle → k ≤ to → IsIdle k (part_at p tables.now) → k ≤ result }
 {

@@ -7,6 +7,7 @@ ghost use Rattle.ptk_words_batches.specs.Quiet.{after_ticks};
 ghost use Rattle.ptk_kernel.specs.Kept.{limits_at, part_at};
 ghost use Rattle.ptk_kernel.specs.Rows.{IsStill};
 ghost use Rattle.ptk_system_machine.specs.Accounts.{IsBehind};
+ghost use Rattle.ptk_system_machine.specs.Steady.{AreSteady, states_from};
 ghost use Rattle.ptk_system_machine.specs.Turns.{IsComing, IsPlainAt};
 ghost use Rattle.ptk_system_machine.specs.Whole.{AreWindowsOf, account_at, gone_on, state_at};
 
@@ -19,7 +20,7 @@ impl Machine {
     /// Goes on from a tick as `run_row` does, but by plain steps of one window at most and the quiet call behind them,
     /// which is the last step. Returns the tick that it reached, which is the first one only where a decision at that
     /// tick is no plain step of a quiet partition. To each partition it does what this many ticks would do to that
-    /// partition alone.
+    /// partition alone. At each tick on the way each partition's threads are and wait as at the first one.
     pub fn run_call(&mut self, plan: &WindowPlan, tick: Tick, to: Tick) -> Tick
         requires windows { AreWindowsOf (length self.old.accounts) plan.now }
         requires order { tick ≤ to }
@@ -33,6 +34,8 @@ impl Machine {
         ensures limits { self.new.kept.limits ≡ self.old.kept.limits }
         ensures each { (q : ℕ) → q < length self.old.accounts →
             state_at q self.new ≡ after_ticks (own_ticks plan.now q) (limits_at q self.old.kept) tick (result - tick) (state_at q self.old) }
+        ensures steady { (q : ℕ) → q < length self.old.accounts →
+            AreSteady (part_at q self.old.kept) (states_from (own_ticks plan.now q) (limits_at q self.old.kept) tick (state_at q self.old)) tick result }
     {
         let _parts = self.parts();
         let Some(first) = self.first_due(plan, tick, to) else {
@@ -56,6 +59,7 @@ impl Machine {
         ensures plain { IsPlainAt (limits_at p self.old.kept) turn.start (part_at p self.old.kept) → turn.start < result.start }
         ensures coming { IsComing (own_ticks plan.now p) to (account_at p self.new).account.next result }
         ensures gone { self.new ≡ gone_on (own_ticks plan.now p) p turn.start (result.start - turn.start) self.old }
+        ensures steady { AreSteady (part_at p self.old.kept) (states_from (own_ticks plan.now p) (limits_at p self.old.kept) turn.start (state_at p self.old)) turn.start result.start }
     {
         let _parts = self.parts();
         plan.is_plan();

@@ -2,6 +2,7 @@ use Rattle.std.proofs.Common.{◌≡◌, ◌<◌, length, subst, sym, ap, arith}
 use Rattle.ptk_words_windows.specs.Windows.{WindowPlan}
 use Rattle.ptk_system_machine.specs.Whole.{AreWindowsOf}
 use Rattle.ptk_system.specs.World.{World}
+use Rattle.ptk_system.proofs.Going.{here_going, run_going}
 use Rattle.ptk_system.proofs.Runs.{plain_told, run_behind, run_on, run_seen, windows_known}
 use Rattle.ptk_system.proofs.system.System.call_to.Goals as goal
 
@@ -33,3 +34,11 @@ returns-clause-on c = λ before plain.
     let on : c.self.inside.tick < c.run_call-self-inside.result =
     c.run_call-self-inside.ensures.on (omega (arith, at, before)) (plain_told c.self.inside.config.now c.self.inside.files.now c.self.inside.machine c.self.inside.tick c.args.self.now c.self.invariant c.self.view_is plain) in
     omega (arith, at, on)
+
+pub returns-clause-steady : goal.returns-clause-steady
+returns-clause-steady c =
+    run_going c.self.inside.config.now c.self.inside.files.now c.self.inside.machine c.self.inside.tick c.run_call-self-inside.result c.plan-plan.result.now c.args.self.now c.self.invariant c.plan-plan.ensures.value c.self.view_is
+    c.run_call-self-inside.ensures.steady
+
+pub returns-then-ticks-clause-steady : goal.returns-then-ticks-clause-steady
+returns-then-ticks-clause-steady c = here_going c.self.inside.config.now c.self.inside.files.now c.self.inside.machine c.self.inside.tick c.args.self.now c.self.invariant c.self.view_is

@@ -2,12 +2,14 @@ use Rattle.std.proofs.Common.{◌≡◌, ◌-◌, ◌<◌, ◌≤◌, sym, subst
 use Rattle.ptk_words_windows.specs.Windows.{own_ticks}
 use Rattle.ptk_kernel.specs.Kept.{limits_at, part_at}
 use Rattle.ptk_system_machine.specs.Accounts.{IsBehind}
+use Rattle.ptk_system_machine.specs.Steady.{AreSteady, states_from}
 use Rattle.ptk_system_machine.specs.Turns.{IsComing, IsPlainAt}
 use Rattle.ptk_system_machine.specs.Whole.{Whole, account_at, gone_on, state_at}
 use Rattle.ptk_system_machine.proofs.Behind.{behind_later}
 use Rattle.ptk_system_machine.proofs.Coming.{coming_before, row_each}
 use Rattle.ptk_system_machine.proofs.First.{still_before}
 use Rattle.ptk_system_machine.proofs.Progress.{goes_on}
+use Rattle.ptk_system_machine.proofs.Steady.{steady_each, steady_stays}
 use Rattle.ptk_system_machine.proofs.machine.Machine.run_call.Goals as goal
 
 pub call_rows-requires-clause-due : goal.call_rows-requires-clause-due
@@ -41,3 +43,15 @@ returns-clause-on c = λ before plain.
     let due = c.in-Some.ensures.first.1.due c.in-Some.ensures.first.0 in
     goes_on c.in-Some.first.p c.args.tick c.args.to c.call_rows.result.start c.in-Some.first.turn c.args.self.now due.2.from due.2.coming.due before (plain c.in-Some.first.p due.0) c.call_rows.ensures.from
     (subst (λ (w : Whole). IsPlainAt (limits_at c.in-Some.first.p w.kept) c.in-Some.first.turn.start (part_at c.in-Some.first.p w.kept) → c.in-Some.first.turn.start < c.call_rows.result.start) c.first_due.ensures.same c.call_rows.ensures.plain)
+
+pub returns-clause-steady : goal.returns-clause-steady
+returns-clause-steady c =
+    let first = c.in-Some.ensures.first.1 in
+    let due = first.due c.in-Some.ensures.first.0 in
+    let on : c.in-Some.first.turn.start ≤ c.call_rows.result.start = c.call_rows.ensures.from in
+    steady_each c.args.plan.now c.in-Some.first.p c.args.tick c.in-Some.first.turn.start c.call_rows.result.start c.args.self.now due.0 (first.still c.in-Some.first.p due.0) due.2.from on
+    (λ q below differ. still_before (own_ticks c.args.plan.now q) (limits_at q c.args.self.now.kept) c.args.tick c.in-Some.first.stop c.call_rows.result.start (state_at q c.args.self.now) c.call_rows.ensures.coming.within (first.others q below differ))
+    (subst (λ (w : Whole). AreSteady (part_at c.in-Some.first.p w.kept) (states_from (own_ticks c.args.plan.now c.in-Some.first.p) (limits_at c.in-Some.first.p w.kept) c.in-Some.first.turn.start (state_at c.in-Some.first.p w)) c.in-Some.first.turn.start c.call_rows.result.start) c.first_due.ensures.same c.call_rows.ensures.steady)
+
+pub returns-in_default-clause-steady : goal.returns-in_default-clause-steady
+returns-in_default-clause-steady c = λ q below. steady_stays (own_ticks c.args.plan.now q) q c.args.tick c.args.to c.args.self.now (c.in_default.ensures.first q below)
