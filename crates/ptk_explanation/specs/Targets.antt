@@ -41,13 +41,13 @@ word_of_wait (ConditionWait c m deadline) = codes "condition"
 word_of_wait (RelockWait m reply) = codes "relock"
 
 -- the mutex that a wait names: the one that it is for, or that it is to have again (pthread_mutex_lock, pthread_cond_wait)
-abbrev pub mutex_named : Wait → Option MutexNumber
-mutex_named InputWait = None
-mutex_named (SleepWait deadline) = None
-mutex_named (JoinWait u) = None
-mutex_named (MutexWait m deadline) = Some m
-mutex_named (ConditionWait c m deadline) = Some m
-mutex_named (RelockWait m reply) = Some m
+abbrev pub target_mutex : Wait → Option MutexNumber
+target_mutex InputWait = None
+target_mutex (SleepWait deadline) = None
+target_mutex (JoinWait u) = None
+target_mutex (MutexWait m deadline) = Some m
+target_mutex (ConditionWait c m deadline) = Some m
+target_mutex (RelockWait m reply) = Some m
 
 -- the thread whose end a wait is for (pthread_join)
 abbrev pub joined_by : Wait → Option ThreadNumber
@@ -63,7 +63,7 @@ abbrev pub aim_of_wait : Wait → Aim
 aim_of_wait wait =
     record {
       word = word_of_wait wait;
-      mutex = mutex_named wait;
+      mutex = target_mutex wait;
       condition = condition_of_wait (Some wait);
       joins = joined_by wait;
       deadline = deadline_of_wait (Some wait);

@@ -2,7 +2,7 @@
 
 ghost use Rattle.std.specs.Prelude.{◌≡◌};
 ghost use Rattle.ptk_words.specs.Threads.{condition_of_wait, deadline_of_wait};
-ghost use Rattle.ptk_explanation.specs.Targets.{aim_in, aim_of, aim_of_wait, joined_by, mutex_named, no_aim, word_of_wait};
+ghost use Rattle.ptk_explanation.specs.Targets.{aim_in, aim_of, aim_of_wait, joined_by, no_aim, target_mutex, word_of_wait};
 
 use ptk_explanation_facts::Activity;
 use ptk_words::Wait;
@@ -81,7 +81,7 @@ fn word_of_wait(wait: &Wait) -> &'static str
 /// The mutex that a wait names: the one that it is for, or that it is to have again (pthread_mutex_lock,
 /// pthread_cond_wait).
 fn mutex_number(wait: &Wait) -> Option<u8>
-    ensures { result ≡ mutex_named wait.now }
+    ensures { result ≡ target_mutex wait.now }
 {
     match wait {
         Wait::MutexWait(m, _) | Wait::ConditionWait(_, m, _) | Wait::RelockWait(m, _) => {

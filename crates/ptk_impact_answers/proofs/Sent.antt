@@ -14,12 +14,12 @@ use Rattle.ptk_impact.specs.declared.image.ImageChange.{ImageChange}
 use Rattle.ptk_impact.specs.declared.impact.Impact.{Impact}
 use Rattle.ptk_impact.specs.declared.input.InputChange.{InputChange}
 use Rattle.ptk_impact.specs.declared.limits.LimitChange.{LimitChange}
-use Rattle.ptk_main_runs.specs.Members.{SendsAll, optional_value}
+use Rattle.ptk_main_runs.specs.Members.{SendsAll, number_member, object, object_member, optional_value, value_member}
 use Rattle.ptk_main_runs.specs.declared.members.Value.{Value}
 use Rattle.ptk_main_runs.specs.declared.members.Value.TheVariants.{Number, Word}
 use Rattle.ptk_impact_answers.specs.declared.comparison.Comparison.{Comparison}
 use Rattle.ptk_impact_answers.specs.Comparisons.{by_key, impact_words, other_files}
-use Rattle.ptk_impact_answers.specs.Documents.{SendsChanges, SendsComparison, SendsDifferences, SendsIfOther, answer_members, arrival_member, faults_member, files_member, image_change_members, image_member, input_member, limit_member, limits_member, note_members, number_member, object, object_member, other_name_member, other_place_member, pair_member, value_member, windows_member}
+use Rattle.ptk_impact_answers.specs.Documents.{SendsChanges, SendsComparison, SendsDifferences, SendsIfOther, answer_members, arrival_member, faults_member, files_member, image_change_members, image_member, input_member, limit_member, limits_member, note_members, other_name_member, other_place_member, pair_member, windows_member}
 
 -- ---- one behind the other
 

@@ -4,7 +4,7 @@ use Rattle.std.specs.List.{concat}
 use Rattle.std.specs.Option.{option_copied, option_map_or}
 use Rattle.std.specs.Str.{bytes_eq}
 use Rattle.std.specs.Io.KnownBytes.{Appends}
-use Rattle.serde.specs.Event.{Event, Log, Sends, Then, unsigned, text, map_begins, map_ends, field_key}
+use Rattle.serde.specs.Event.{Event, Log, Sends, Then, map_begins, map_ends, field_key}
 use Rattle.serde.specs.declared.name.Case.TheVariants.{AsIs}
 use Rattle.serde_json.specs.Sent.{IsTextOf}
 use Rattle.ptk_words.specs.Faults.{image_fault_number}
@@ -17,7 +17,7 @@ use Rattle.ptk_impact.specs.declared.impact.Impact.{Impact}
 use Rattle.ptk_impact.specs.declared.impact.Impact.TheVariants.{Unchanged, UnchangedButForTrace, Changed}
 use Rattle.ptk_impact.specs.declared.input.InputChange.{InputChange}
 use Rattle.ptk_impact.specs.declared.limits.LimitChange.{LimitChange}
-use Rattle.ptk_main_runs.specs.Members.{SendsAll, optional_value, value_event}
+use Rattle.ptk_main_runs.specs.Members.{SendsAll, number_member, object, object_member, optional_value, value_member, word_member}
 use Rattle.ptk_main_runs.specs.declared.members.Value.{Value}
 use Rattle.ptk_main_runs.specs.declared.members.Value.TheVariants.{Number, Null}
 use Rattle.ptk_impact_answers.specs.declared.comparison.Comparison.{Comparison}
@@ -25,27 +25,7 @@ use Rattle.ptk_impact_answers.specs.declared.tally.Tally.{Tally}
 use Rattle.ptk_impact_answers.specs.Comparisons.{by_key, impact_words, other_files}
 use Rattle.ptk_impact_answers.specs.Counts.{is_empty}
 
--- ---- members and objects
-
--- a member with a value (RFC 8259 section 4)
-abbrev pub value_member : List ℕ → Value → List Event
-value_member key value = field_key key AsIs ∷ value_event value ∷ []
-
--- a member that is a number (RFC 8259 section 6)
-abbrev pub number_member : List ℕ → ℕ → List Event
-number_member key number = field_key key AsIs ∷ unsigned number ∷ []
-
--- a member that is a word (RFC 8259 section 7)
-abbrev pub word_member : List ℕ → List ℕ → List Event
-word_member key word = field_key key AsIs ∷ text word ∷ []
-
--- an object of these members (RFC 8259 section 4)
-abbrev pub object : List Event → List Event
-object members = map_begins None ∷ members ++ (map_ends ∷ [])
-
--- a member that is an object of these members (RFC 8259 section 4)
-abbrev pub object_member : List ℕ → List Event → List Event
-object_member key members = field_key key AsIs ∷ object members
+-- ---- members
 
 -- a member with what the old and the new configuration have (own)
 abbrev pub pair_member : List ℕ → Value → Value → List Event

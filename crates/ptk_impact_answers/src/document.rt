@@ -4,9 +4,9 @@ ghost use Rattle.std.specs.Prelude.{◌≡◌, ◌||◌, [], ◌∷◌, ◌++◌
 ghost use Rattle.std.specs.Option.{option_copied, option_map_or};
 ghost use Rattle.json.specs.Lex.{tokens};
 ghost use Rattle.json.specs.Print.{print};
-ghost use Rattle.ptk_main_runs.specs.Members.{SendsAll, optional_value};
+ghost use Rattle.ptk_main_runs.specs.Members.{SendsAll, object_member, optional_value, word_member};
 ghost use Rattle.ptk_impact_answers.specs.Comparisons.{by_key, other_files};
-ghost use Rattle.ptk_impact_answers.specs.Documents.{IsAlone, IsCompared, SendsChanges, SendsComparison, SendsDifferences, SendsIfOther, alone_events, answer_members, arrival_member, fault_value, faults_member, files_member, image_change_members, image_member, input_member, limit_member, limits_member, note_members, object_member, other_name_member, other_place_member, pair_member, windows_member, word_member};
+ghost use Rattle.ptk_impact_answers.specs.Documents.{IsAlone, IsCompared, SendsChanges, SendsComparison, SendsDifferences, SendsIfOther, alone_events, answer_members, arrival_member, fault_value, faults_member, files_member, image_change_members, image_member, input_member, limit_member, limits_member, note_members, other_name_member, other_place_member, pair_member, windows_member};
 
 use crate::comparison::{Comparison, Pair, by_key, impact_words};
 use ptk_impact::{

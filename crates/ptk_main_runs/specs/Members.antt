@@ -25,6 +25,30 @@ member_events members = flat_map (λ member. field_key member.0.now AsIs ∷ val
 abbrev pub object_events : List ℕ → List (Bor (List ℕ) × Value) → List Event
 object_events key members = field_key key AsIs ∷ map_begins None ∷ member_events members ++ (map_ends ∷ [])
 
+-- a member with a value (RFC 8259 section 4)
+abbrev pub value_member : List ℕ → Value → List Event
+value_member key value = field_key key AsIs ∷ value_event value ∷ []
+
+-- a member that is a number (RFC 8259 section 6)
+abbrev pub number_member : List ℕ → ℕ → List Event
+number_member key number = field_key key AsIs ∷ unsigned number ∷ []
+
+-- a member that is a word (RFC 8259 section 7)
+abbrev pub word_member : List ℕ → List ℕ → List Event
+word_member key word = field_key key AsIs ∷ text word ∷ []
+
+-- members one behind the other (RFC 8259 section 4)
+abbrev pub all_members : List (List Event) → List Event
+all_members members = flat_map (λ member. member) members
+
+-- an object with this inside (RFC 8259 section 4)
+abbrev pub object : List Event → List Event
+object members = map_begins None ∷ members ++ (map_ends ∷ [])
+
+-- a member that is an object with this inside (RFC 8259 section 4)
+abbrev pub object_member : List ℕ → List Event → List Event
+object_member key members = field_key key AsIs ∷ object members
+
 -- where what was sent before is known, these come behind it (own)
 abbrev pub SendsAll : List Event → Log → Log → Type 0
 SendsAll events None new = ⊤

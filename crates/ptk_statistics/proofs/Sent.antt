@@ -26,9 +26,9 @@ use Rattle.ptk_statistics_figures.specs.Counts.{counted_ticks, steps_by_thread, 
 use Rattle.ptk_statistics_figures.specs.Lengths.{mean_of}
 use Rattle.ptk_statistics_figures.specs.Mutexes.{is_mutex_used}
 use Rattle.ptk_statistics_figures.specs.Threads.{calls_at, is_used}
-use Rattle.ptk_statistics_run.specs.Members.{SendsAll, optional_value, value_event}
+use Rattle.ptk_statistics_run.specs.Members.{SendsAll, all_members, number_member, object_member, optional_value, value_event, word_member}
 use Rattle.ptk_statistics.specs.Words.{word_of_doing, word_of_outcome}
-use Rattle.ptk_statistics.specs.Document.{InArray, InObject, SendsActivations, SendsCall, SendsCalls, SendsCounted, SendsFigures, SendsIf, SendsMutex, SendsMutexAt, SendsMutexes, SendsThread, SendsThreadAt, SendsThreads, SendsTicks, SendsUsedMutex, SendsUsedThread, all_members, call_items, longest_member, number_member, object_member, pair_member, standing_members, word_member}
+use Rattle.ptk_statistics.specs.Document.{InArray, InObject, SendsActivations, SendsCall, SendsCalls, SendsCounted, SendsFigures, SendsIf, SendsMutex, SendsMutexAt, SendsMutexes, SendsThread, SendsThreadAt, SendsThreads, SendsTicks, SendsUsedMutex, SendsUsedThread, call_items, longest_member, pair_member, standing_members}
 
 -- ---- one behind the other
 
@@ -97,8 +97,8 @@ call_sent name count old begun listed new made a b c =
 
 pub longest_sent : (key : List ℕ) (longest : Option Longest) (there : Longest) (number from : ℕ) (old new : Log) → longest ≡ Some there
     → number ≡ there.thread → from ≡ there.from
-    → SendsAll (object_member key (number_member (codes "own") there.span.own ∷ number_member (codes "all") there.span.wall
-    ∷ number_member (codes "thread") number ∷ number_member (codes "from") from ∷ [])) old new
+    → SendsAll (object_member key (all_members (number_member (codes "own") there.span.own ∷ number_member (codes "all") there.span.wall
+    ∷ number_member (codes "thread") number ∷ number_member (codes "from") from ∷ []))) old new
     → SendsAll (longest_member key longest) old new
 longest_sent key longest there number from old new is e1 e2 sent =
     subst (λ (o : Option Longest). SendsAll (longest_member key o) old new) (sym is) (rw (e1, e2) at sent)

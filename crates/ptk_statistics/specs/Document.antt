@@ -1,7 +1,7 @@
 -- What the JSON object of a partition holds, as what is sent of it to a writer of JSON (docs/FORMATS.md, "Figures of a run").
-use Rattle.std.specs.Prelude.{◌≡◌, ℕ, ◌+◌, ◌≤◌, Bool, true, false, List, [], ◌∷◌, ◌++◌, Option, Some, None, codes, flat_map, if◌then◌else◌, ◌==◌, length, min, slice_index}
+use Rattle.std.specs.Prelude.{◌≡◌, ℕ, ◌+◌, ◌≤◌, Bool, true, false, List, [], ◌∷◌, Option, Some, None, codes, if◌then◌else◌, ◌==◌, length, min, slice_index}
 use Rattle.std.specs.List.{HoldsAt, range_with_len}
-use Rattle.serde.specs.Event.{Event, Log, Sends, Then, WritesEach, unsigned, text, seq_begins, seq_ends, map_begins, map_ends, field_key}
+use Rattle.serde.specs.Event.{Event, Log, Sends, Then, WritesEach, seq_begins, seq_ends, map_begins, map_ends, field_key}
 use Rattle.serde_json.specs.Sent.{IsTextOf}
 use Rattle.serde.specs.declared.name.Case.TheVariants.{AsIs}
 use Rattle.ptk_words.specs.declared.calls.Call.{Call}
@@ -20,7 +20,7 @@ use Rattle.ptk_statistics_figures.specs.Counts.{counted_ticks, steps_by_thread, 
 use Rattle.ptk_statistics_figures.specs.Lengths.{mean_of}
 use Rattle.ptk_statistics_figures.specs.Mutexes.{is_mutex_used}
 use Rattle.ptk_statistics_figures.specs.Threads.{calls_at, is_used, other_calls, time_of}
-use Rattle.ptk_statistics_run.specs.Members.{SendsAll, optional_value, value_event}
+use Rattle.ptk_statistics_run.specs.Members.{SendsAll, all_members, number_member, object, object_member, optional_value, value_event, word_member}
 use Rattle.ptk_statistics_run.specs.PartStatus.{PartStatus}
 use Rattle.ptk_statistics.specs.declared.words.TheConstants.{KINDS}
 use Rattle.ptk_statistics.specs.Words.{word_of_doing, word_of_outcome}
@@ -28,29 +28,9 @@ use Rattle.ptk_statistics_run.specs.declared.part.PartStatistics.{PartStatistics
 
 -- ---- members and objects
 
--- a member that is a number (RFC 8259 section 6)
-abbrev pub number_member : List ℕ → ℕ → List Event
-number_member key number = field_key key AsIs ∷ unsigned number ∷ []
-
 -- a member that is a number, null where there is none (RFC 8259 section 3)
 abbrev pub optional_member : List ℕ → Option ℕ → List Event
 optional_member key number = field_key key AsIs ∷ value_event (optional_value number) ∷ []
-
--- a member that is a word (RFC 8259 section 7)
-abbrev pub word_member : List ℕ → List ℕ → List Event
-word_member key word = field_key key AsIs ∷ text word ∷ []
-
--- members one behind the other (RFC 8259 section 4)
-abbrev pub all_members : List (List Event) → List Event
-all_members members = flat_map (λ member. member) members
-
--- an object of these members (RFC 8259 section 4)
-abbrev pub object : List (List Event) → List Event
-object members = map_begins None ∷ all_members members ++ (map_ends ∷ [])
-
--- a member that is an object of these members (RFC 8259 section 4)
-abbrev pub object_member : List ℕ → List (List Event) → List Event
-object_member key members = field_key key AsIs ∷ object members
 
 -- a member that is an object with this inside (RFC 8259 section 4)
 abbrev pub InObject : List ℕ → (Log → Log → Type 0) → Log → Log → Type 0
@@ -87,11 +67,11 @@ SendsCounted counted old new = counted_ticks counted ≤ LAST_TICK → SendsAll 
 
 -- a pair of own ticks and all ticks (own)
 abbrev pub pair_member : List ℕ → Span → List Event
-pair_member key span = object_member key (number_member (codes "own") span.own ∷ number_member (codes "all") span.wall ∷ [])
+pair_member key span = object_member key (all_members (number_member (codes "own") span.own ∷ number_member (codes "all") span.wall ∷ []))
 
 -- a call, how often it was made and how often refused (own)
 abbrev pub call_item : List ℕ → CallCount → List Event
-call_item name count = object (word_member (codes "call") name ∷ number_member (codes "made") count.made ∷ number_member (codes "refused") count.refused ∷ [])
+call_item name count = object (all_members (word_member (codes "call") name ∷ number_member (codes "made") count.made ∷ number_member (codes "refused") count.refused ∷ []))
 
 -- a call that was made, and nothing of one that was not (own)
 abbrev pub call_items : List ℕ → CallCount → List Event
@@ -158,12 +138,12 @@ SendsThreads part = InArray (codes "threads") (WritesEach (SendsThreadAt part) (
 -- a mutex's longest time, whose it was and from when on, and nothing where there was none (own)
 abbrev pub longest_member : List ℕ → Option Longest → List Event
 longest_member key None = []
-longest_member key (Some longest) = object_member key (
+longest_member key (Some longest) = object_member key (all_members (
     number_member (codes "own") longest.span.own
     ∷ number_member (codes "all") longest.span.wall
     ∷ number_member (codes "thread") longest.thread
     ∷ number_member (codes "from") longest.from
-    ∷ [])
+    ∷ []))
 
 -- the object of the mutex of this number: for how long it was held and waited for (own)
 abbrev pub SendsMutex : ℕ → MutexStatistics → Log → Log → Type 0

@@ -1,6 +1,7 @@
 use Rattle.std.proofs.Common.{◌∙◌, ◌++◌, codes, sym}
 use Rattle.std.proofs.lemmas.Result.{on_ok_weaker}
-use Rattle.ptk_impact_answers.specs.Documents.{faults_member, image_change_members, object_member}
+use Rattle.ptk_main_runs.specs.Members.{object_member}
+use Rattle.ptk_impact_answers.specs.Documents.{faults_member, image_change_members}
 use Rattle.ptk_impact_answers.proofs.Sent.{if_not_sent, image_sent}
 use Rattle.ptk_impact_answers.proofs.document.put_image.Goals as goal
 

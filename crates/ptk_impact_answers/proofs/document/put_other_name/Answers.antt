@@ -1,6 +1,6 @@
 use Rattle.std.proofs.Common.{◌∙◌, codes, sym}
 use Rattle.std.proofs.lemmas.Result.{on_ok_weaker}
-use Rattle.ptk_impact_answers.specs.Documents.{word_member}
+use Rattle.ptk_main_runs.specs.Members.{word_member}
 use Rattle.ptk_impact_answers.proofs.Sent.{if_not_sent, if_sent}
 use Rattle.ptk_impact_answers.proofs.document.put_other_name.Goals as goal
 
