@@ -3,3 +3,4 @@ pub mod PriorityLaws
 pub mod ArrivalLaws
 pub mod ExpiryLaws
 pub mod Sizes
+pub mod OtherThreads

@@ -2,3 +2,4 @@ pub mod Guests
 pub mod Rows
 pub mod Laws
 pub mod Sizes
+pub mod Others

@@ -8,6 +8,7 @@ ghost use Rattle.ptk_words_windows.specs.Windows.{OwnTicks};
 ghost use Rattle.ptk_words_model.specs.State.{Mutex, Console, Part};
 ghost use Rattle.ptk_words_model.specs.Withdrawal.{Expiry};
 ghost use Rattle.ptk_words_laws.specs.Laws.{CostsAreSmall, CallsAreNumbered, ChainIsDecided, PriorityIsGreatest, ArrivalsAreDue, IsInOrder};
+ghost use Rattle.ptk_words_laws.specs.Others.{CallsLeaveOthers, StepsLeaveOthers};
 ghost use Rattle.ptk_words_laws.specs.Sizes.{StartIsSized, CallsKeepSizes, DecisionsKeepSizes, SizesStay};
 
 /// Every number costs 1 to 16 ticks, and the greatest cost is 16.
@@ -60,4 +61,15 @@ pub fn decisions_keep_sizes()
 /// After every number of ticks each part of a partition has the size that its section gives it.
 pub fn sizes_stay()
     ensures { (ticks : OwnTicks) → (limits : Limits) → (image : Option (List ℕ)) → (input : List Arrival) → SizesStay ticks limits image input }
+{}
+
+/// A call that does not act on others leaves each thread but its caller with the wait and the phase that it had.
+pub fn calls_leave_others()
+    ensures { (part : Part) → CallsLeaveOthers part }
+{}
+
+/// An instruction leaves each thread but the one that makes it with the wait and the phase that it had, unless it is
+/// the ECALL of a call that acts on others.
+pub fn steps_leave_others()
+    ensures { (part : Part) → StepsLeaveOthers part }
 {}
