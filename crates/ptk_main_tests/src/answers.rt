@@ -8,6 +8,8 @@ use ptk_main_commands::answers::{
 };
 use ptk_main_commands::timeline_answer;
 use ptk_main_faults::{FailureKind, Fault};
+use ptk_main_guests::sources::HELLO;
+use ptk_main_guests::{files_with, image_of};
 use ptk_main_line::{FailOn, Format, PictureFormat};
 use ptk_symbols::{Symbols, read_symbols};
 use ptk_words::Tick;
@@ -17,9 +19,6 @@ use std::process::Abort;
 
 const HELLO_TEXT: &str =
     "frame = 20\n[[partition]]\nname = \"p\"\nimage = \"p.img\"\nmemory = 4096\nthreads = 4\nstack = 256\nmutexes = 4\nconds = 4\nkeys = 4\ninterval = 100\nring = 16\noutput = 64\ntrace = 2\n[[window]]\nstart = 0\nlength = 20\npartition = \"p\"\n";
-
-const HELLO_IMAGE: &[u8] =
-    b"PTKI\x01\0\0\0\0\0\0\0\x24\0\0\0\0\0\0\0\0\0\0\0\x93\x08\x10\x00\x13\x05\x80\x06\x73\0\0\0\x93\x08\x10\x00\x13\x05\x90\x06\x73\0\0\0\x93\x08\0\0\x13\x05\0\0\x73\0\0\0";
 
 const HELLO_REPORT: &str = "partition p exit 0 steps 9 lost 0\noutput 2\nhi\n";
 
@@ -222,11 +221,7 @@ fn check_expectations(rt: &impl Abort, alloc: Global, config: &Config, files: &F
 
 // The file of row hello's image, None where memory ran out.
 fn hello(alloc: Global) -> Option<Files> {
-    let mut files = Files::new(alloc);
-    match files.add("p.img", HELLO_IMAGE) {
-        Ok(()) => Some(files),
-        Err(_) => None,
-    }
+    files_with(alloc, &image_of(alloc, &[HELLO])?, &[]).ok()
 }
 
 #[test]

@@ -35,7 +35,7 @@ const FIRST_20: &str = "[[window]]\nstart = 0\nlength = 20\npartition = \"p\"\n"
 
 const SECOND_20: &str = "[[window]]\nstart = 20\nlength = 20\npartition = \"q\"\n";
 
-// Puts `h` and `i` and exits with 0, as a source and as its image.
+// Puts `h` and `i` and exits with 0, as a source and as the bytes that `asm` is to make of it.
 const HELLO_SOURCE: &str =
     "li a7, 1\nli a0, 104\necall\nli a7, 1\nli a0, 105\necall\nli a7, 0\nli a0, 0\necall\n";
 

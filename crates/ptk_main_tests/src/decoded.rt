@@ -1,9 +1,9 @@
 //! The lines of a decoded trace: of row hello with symbols, and of a guest whose calls reply errors and block, its
 //! calls alone. What is wanted was worked out by hand.
 
-use ptk_config::{Config, read_config};
-use ptk_image::Files;
 use ptk_main_commands::answers::{Filter, decoded_trace_with};
+use ptk_main_guests::sources::HELLO;
+use ptk_main_guests::{Config, Files, guest_of};
 use ptk_symbols::{Symbols, read_symbols};
 use ptk_words::{ThreadNo, Tick};
 use std::alloc::Global;
@@ -11,9 +11,6 @@ use std::test::Fail;
 
 const CONFIGURATION: &str =
     "frame = 20\n[[partition]]\nname = \"p\"\nimage = \"p.img\"\nmemory = 4096\nthreads = 4\nstack = 256\nmutexes = 4\nconds = 4\nkeys = 4\ninterval = 100\nring = 16\noutput = 64\ntrace = 16\n[[window]]\nstart = 0\nlength = 20\npartition = \"p\"\n";
-
-const HELLO_IMAGE: &[u8] =
-    b"PTKI\x01\0\0\0\0\0\0\0\x24\0\0\0\0\0\0\0\0\0\0\0\x93\x08\x10\x00\x13\x05\x80\x06\x73\0\0\0\x93\x08\x10\x00\x13\x05\x90\x06\x73\0\0\0\x93\x08\0\0\x13\x05\0\0\x73\0\0\0";
 
 const HELLO_SYMBOLS: &str = "00000000 T _start\n00000018 t end\n";
 
@@ -28,41 +25,57 @@ const HELLO_LINES: &str = "0 1 0x00000000 0x00100893 0x00000000  # <_start> li a
     14 1 0x00000020 0x00000073 0x00000000  # <end+0x8> ecall exit\n";
 
 /// It joins itself, makes a call of no name, and waits for input that does not come.
-const REFUSED_IMAGE: &[u8] =
-    b"PTKI\x01\0\0\0\0\0\0\0\x1c\0\0\0\0\0\0\0\0\0\0\0\x93\x08\xc0\x00\x13\x05\x10\x00\x73\0\0\0\x93\x08\x30\x06\x73\0\0\0\x93\x08\x20\x00\x73\0\0\0";
+const REFUSED: &str = "
+    li a7, 12           #  0  pthread_join
+    li a0, 1            #  1
+    ecall               #  2
+    li a7, 99           # 10  no call
+    ecall               # 11
+    li a7, 2            # 13  console_get
+    ecall               # 14
+";
 
 const REFUSED_CALLS: &str =
     "2 1 0x00000008 0x00000073 0x00000023  # ecall pthread_join -> EDEADLK\n\
     11 1 0x00000010 0x00000073 0x00000026  # ecall call 99 -> ENOSYS\n\
     14 1 0x00000018 0x00000073 0x00000026  # ecall console_get blocked\n";
 
-// Whether the decoded trace of p at tick 20 with this image has these lines.
-fn is_decoded(
+// Whether the decoded trace of p at tick 20 has these lines.
+fn is_traced(
     alloc: Global,
     config: &Config,
-    image: &[u8],
+    files: &Files,
     symbols: &Symbols<'_>,
     filter: &Filter,
     want: &str,
 ) -> bool {
-    let mut files = Files::new(alloc);
-    if files.add("p.img", image).is_err() {
-        return false;
-    }
     let mut out = Vec::new(alloc);
     let ticks = Tick::new(20);
     let is_written = decoded_trace_with(
-        alloc, config, &files, ticks, "p", symbols, filter, &mut out,
+        alloc, config, files, ticks, "p", symbols, filter, &mut out,
     ).is_ok();
     is_written && out.as_slice() == want.as_bytes()
+}
+
+// Whether it has them with this guest.
+fn is_decoded(
+    alloc: Global,
+    source: &str,
+    symbols: &Symbols<'_>,
+    filter: &Filter,
+    want: &str,
+) -> bool {
+    match guest_of(alloc, &[CONFIGURATION], &[source]) {
+        Some((config, files)) => is_traced(alloc, &config, &files, symbols, filter, want),
+        None => false,
+    }
 }
 
 #[test]
 fn each_step_has_its_words(rt: HostRuntime) -> Result<(), Fail> {
     let alloc = rt.alloc();
-    let config = read_config(alloc, CONFIGURATION)?;
     let (all, symbols) = (Filter::all(), read_symbols(alloc, HELLO_SYMBOLS)?);
-    assert!(rt; is_decoded(alloc, &config, HELLO_IMAGE, &symbols, &all, HELLO_LINES));
+    assert!(rt; is_decoded(alloc, HELLO, &symbols, &all, HELLO_LINES));
     let none = Symbols::new(alloc);
     let calls = Filter {
         thread: Some(ThreadNo::new(1)),
@@ -70,6 +83,6 @@ fn each_step_has_its_words(rt: HostRuntime) -> Result<(), Fail> {
         from: Tick::new(1),
         to: Tick::new(15),
     };
-    assert!(rt; is_decoded(alloc, &config, REFUSED_IMAGE, &none, &calls, REFUSED_CALLS));
+    assert!(rt; is_decoded(alloc, REFUSED, &none, &calls, REFUSED_CALLS));
     Ok(())
 }

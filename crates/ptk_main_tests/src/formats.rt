@@ -2,9 +2,9 @@
 //! that is not before the last is refused, and that a run ends where its writer fails. What is wanted was worked out by
 //! hand: the steps begin at ticks 0, 1, 2, 6, 7, 8, 12, 13 and 14, and the last one halts the partition.
 
-use ptk_config::{Config, read_config};
-use ptk_main_commands::answers::Files;
 use ptk_main_commands::formats::{Form, FormatFault, dump_with};
+use ptk_main_guests::sources::HELLO;
+use ptk_main_guests::{Config, Files, guest_of};
 use ptk_symbols::{Symbols, read_symbols};
 use ptk_words::Tick;
 use std::alloc::Global;
@@ -13,9 +13,6 @@ use std::process::Abort;
 
 const TEXT: &str =
     "frame = 20\n[[partition]]\nname = \"p\"\nimage = \"p.img\"\nmemory = 4096\nthreads = 1\nstack = 256\nmutexes = 4\nconds = 4\nkeys = 4\ninterval = 100\nring = 16\noutput = 64\ntrace = 2\ninput = [{ at = 30, bytes = [1, 2] }]\n[[window]]\nstart = 0\nlength = 20\npartition = \"p\"\n";
-
-const IMAGE: &[u8] =
-    b"PTKI\x01\0\0\0\0\0\0\0\x24\0\0\0\0\0\0\0\0\0\0\0\x93\x08\x10\x00\x13\x05\x80\x06\x73\0\0\0\x93\x08\x10\x00\x13\x05\x90\x06\x73\0\0\0\x93\x08\0\0\x13\x05\0\0\x73\0\0\0";
 
 const DUMP: &str = "$version ptk timeline $end\n$timescale 1 us $end\n\
     $scope module p $end\n\
@@ -88,13 +85,11 @@ fn check_formats(
 #[test]
 fn a_run_has_its_bytes_in_each_format(rt: HostRuntime) {
     let alloc = rt.alloc();
-    let mut files = Files::new(alloc);
-    let is_added = files.add("p.img", IMAGE).is_ok();
     match (
-        read_config(alloc, TEXT),
+        guest_of(alloc, &[TEXT], &[HELLO]),
         read_symbols(alloc, "00000000 T say\"hi\"\n"),
     ) {
-        (Ok(config), Ok(named)) if is_added => check_formats(&rt, alloc, &config, &files, &named),
+        (Some(guest), Ok(named)) => check_formats(&rt, alloc, &guest.0, &guest.1, &named),
         _ => assert!(rt; false, "no memory"),
     }
 }

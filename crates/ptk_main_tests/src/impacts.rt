@@ -1,14 +1,14 @@
 //! What is written of pairs of configurations. What is wanted was worked out by hand. A helper that promises nothing is
 //! between each row and the calls that it tests.
 
-use ptk_image::Files;
+use crate::statistics::EXIT;
 use ptk_main_commands::answers::{run_with, trace_with};
 use ptk_main_commands::impacts::{Question, Release, impact_json_with, impact_with};
 use ptk_main_faults::Fault;
-use ptk_main_guests::{Config, config_of};
+use ptk_main_guests::{Config, Files, config_of, image_of};
 use ptk_main_line::Format;
 use ptk_words::Tick;
-use std::alloc::{AllocError, Global};
+use std::alloc::Global;
 
 // The table of partition p or q, whose image has two steps.
 const P: &str = "[[partition]]\nname = \"p\"\nimage = \"p.img\"\n";
@@ -56,11 +56,11 @@ const BOTH: [&str; 7] = [FRAME, P, NUMBERS, Q, NUMBERS, FIRST, SECOND];
 /// p alone, in the same window.
 const ALONE: [&str; 4] = [FRAME, P, NUMBERS, FIRST];
 
-// An image of two words, and the same with one bit other.
-const IMAGE: &[u8] = b"PTKI\x01\0\0\0\0\0\0\0\x08\0\0\0\0\0\0\0\0\0\0\0\x93\x08\0\0\x73\0\0\0";
-
-const OTHER_IMAGE: &[u8] =
-    b"PTKI\x01\0\0\0\0\0\0\0\x08\0\0\0\0\0\0\0\0\0\0\0\x93\x08\0\0\x73\0\0\x01";
+// The guest `EXIT` with one bit other: its second word is no instruction.
+const OTHER: &str = "
+    li a7, 0
+    .word 0x01000073
+";
 
 /// Two configurations, a question on the way from one to the other, and its answer.
 struct Case<'a> {
@@ -95,21 +95,21 @@ const BYTE: &str = "input = [{ at = 5, bytes = [65] }]\n";
 const CHANGED: &str =
     "memory = 8192\nthreads = 4\nstack = 256\nmutexes = 4\nconds = 4\nkeys = 3\ninterval = 100\nring = 16\noutput = 64\ntrace = 16\n";
 
-// The files: two images, of which the other one is there under a name with a quotation mark too, and one that is none.
-const FILES: [(&str, &[u8]); 4] = [
-    ("p.img", IMAGE),
-    ("other.img", OTHER_IMAGE),
-    ("a\".img", OTHER_IMAGE),
-    ("bad.img", b"no image"),
-];
-
-// These files.
-fn files_of(alloc: Global, files: &[(&str, &[u8])]) -> Result<Files, AllocError> {
-    let mut all = Files::new(alloc);
-    for (name, bytes) in files {
-        all.add(name, bytes)?;
+// Whether the image of a guest is now in the file of this name.
+fn is_added(alloc: Global, files: &mut Files, name: &str, source: &str) -> bool {
+    match image_of(alloc, &[source]) {
+        Some(image) => files.add(name, &image).is_ok(),
+        None => false,
     }
-    Ok(all)
+}
+
+// Whether the files are there now: two images, of which the other one has a name with a quotation mark too, and one
+// that is none.
+fn are_added(alloc: Global, files: &mut Files) -> bool {
+    is_added(alloc, files, "p.img", EXIT)
+        && is_added(alloc, files, "other.img", OTHER)
+        && is_added(alloc, files, "a\".img", OTHER)
+        && files.add("bad.img", b"no image").is_ok()
 }
 
 // Whether this is the answer to a case's question on the way from one release to another, in a format.
@@ -304,7 +304,7 @@ const CASES: [Case<'static>; 20] = [
             "p: changed\n  windows: tick 0: its own until 20 -> its own until 40\n0 unchanged, 0 unchanged but for the trace kept, 1 changed, 0 new, 0 gone\n",
         ),
     },
-    // one bit of an image, the highest of its last byte
+    // one bit of an image, the lowest of its last byte
     Case {
         old: &ALONE,
         new: &[FRAME, OTHER_P, NUMBERS, FIRST],
@@ -416,8 +416,9 @@ const CASES: [Case<'static>; 20] = [
 ];
 
 #[test]
-fn a_question_is_answered(rt: HostRuntime) -> Result<(), AllocError> {
-    let files = files_of(rt.alloc(), &FILES)?;
+fn a_question_is_answered(rt: HostRuntime) {
+    let mut files = Files::new(rt.alloc());
+    assert!(rt; are_added(rt.alloc(), &mut files));
     for (place, case) in CASES.iter().enumerate() {
         assert!(rt;
             is_answered(rt.alloc(), case, Format::Text, &files),
@@ -425,12 +426,14 @@ fn a_question_is_answered(rt: HostRuntime) -> Result<(), AllocError> {
         );
     }
     assert!(rt; is_answered(rt.alloc(), &EACH_KIND, Format::Json, &files));
-    Ok(())
 }
 
-// An image that counts on without end: addi a0, a0, 1, and a jump back to it (RISC-V Unprivileged ISA, RV32I).
-const COUNTING_IMAGE: &[u8] =
-    b"PTKI\x01\0\0\0\0\0\0\0\x08\0\0\0\0\0\0\0\0\0\0\0\x13\x05\x15\0\x6f\xf0\xdf\xff";
+// A guest that counts on without end.
+const COUNTING: &str = "
+count:
+    addi a0, a0, 1
+    j count
+";
 
 // Ticks in windows of p and of q, in the first frame and in later ones: frame 3 begins at tick 120.
 const TICKS: [u32; 4] = [30, 50, 130, 155];
@@ -464,9 +467,10 @@ fn runs_alike(alloc: Global, case: &Case<'_>, files: &Files, tick: u32) -> Optio
 
 // The tables written otherwise leave each report and trace as it is; the windows swapped do not.
 #[test]
-fn an_unchanged_partition_runs_alike(rt: HostRuntime) -> Result<(), AllocError> {
+fn an_unchanged_partition_runs_alike(rt: HostRuntime) {
     let alloc = rt.alloc();
-    let files = files_of(alloc, &[("p.img", COUNTING_IMAGE)])?;
+    let mut files = Files::new(alloc);
+    assert!(rt; is_added(alloc, &mut files, "p.img", COUNTING));
     for tick in TICKS {
         for case in [&TWICE_THE_FRAME, &REPEATED_STAGE] {
             assert!(rt;
@@ -476,5 +480,4 @@ fn an_unchanged_partition_runs_alike(rt: HostRuntime) -> Result<(), AllocError> 
         }
     }
     assert!(rt; runs_alike(alloc, &SWAPPED_WINDOWS, &files, 130) == Some(false));
-    Ok(())
 }

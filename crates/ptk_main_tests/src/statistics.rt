@@ -1,10 +1,8 @@
-//! The figures of runs of three small guests. What they are was worked out by hand from the costs of docs/GUEST_ABI.md.
-//! A helper that promises nothing is between the rows and the calls that they test.
+//! The figures of runs of three small guests. What they are was worked out by hand from the costs of docs/GUEST_ABI.md;
+//! the ticks stand beside the guests. A helper that promises nothing is between the rows and the calls that they test.
 
-use ptk_config::Config;
-use ptk_image::Files;
 use ptk_main_commands::statistics::{Form, stats_with};
-use ptk_main_guests::config_of;
+use ptk_main_guests::{Config, Files, guest_of};
 use ptk_words::{LAST_TICK, Tick};
 use std::alloc::Global;
 
@@ -15,29 +13,44 @@ const NUMBERS: &str =
     "memory = 4096\nthreads = 4\nstack = 256\nmutexes = 4\nconds = 4\nkeys = 4\ninterval = 100\nring = 16\noutput = 64\ntrace = 16\n";
 
 /// exit(0).
-const EXIT: &[u8] = b"PTKI\x01\0\0\0\0\0\0\0\x08\0\0\0\0\0\0\0\0\0\0\0\x93\x08\0\0\x73\0\0\0";
+pub(crate) const EXIT: &str = "
+    li a7, 0            #  0  exit
+    ecall               #  1
+";
 
-/// console_put in a loop: the number of the call, the call, and back to it.
-const PUTS: &[u8] =
-    b"PTKI\x01\0\0\0\0\0\0\0\x0c\0\0\0\0\0\0\0\0\0\0\0\x93\x08\x10\0\x73\0\0\0\x6f\xf0\xdf\xff";
+/// console_put in a loop.
+const PUTS: &str = "
+    li a7, 1            #  0  console_put
+put:
+    ecall               #  1,  6, 11, 40, 45, 50: 1 tick was left at 16
+    j put               #  5, 10, 15, 44, 49, 54
+";
 
-/// clock_nanosleep until tick 30, then 60, then 120: the number of the call, the address of the time, 30,000 ns; in the
-/// loop it is stored, the call made, and doubled.
-const SLEEPS: &[u8] =
-    b"PTKI\x01\0\0\0\0\0\0\0\x20\0\0\0\0\0\0\0\0\0\0\0\x93\x08\x40\0\x93\x05\0\x20\x37\x76\0\0\x13\x06\x06\x53\x23\xa4\xc5\0\x73\0\0\0\x33\x06\xc6\0\x6f\xf0\x5f\xff";
+/// clock_nanosleep until tick 30, then 60, then 120: the time is stored, the call made, and the time doubled.
+const SLEEPS: &str = "
+    li a7, 4            #  0  clock_nanosleep
+    li a1, 512          #  1  the address of the time
+    li a2, 30000        #  2  its nanoseconds
+sleep:
+    sw a2, 8(a1)        #  4, 32, 62
+    ecall               #  5, 40, 63: 3 ticks were left at 33
+    add a2, a2, a2      # 30, 60
+    j sleep             # 31, 61
+";
 
-/// An image, the window of its partition, a number of ticks, and what is written of its run.
+/// A guest, the window of its partition, a number of ticks, and what is written of its run.
 struct Case<'a> {
-    image: &'a [u8],
+    source: &'a str,
     window: &'a str,
     ticks: u64,
     written: &'a str,
 }
+
 /// What is written of each run.
 const CASES: [Case<'static>; 3] = [
     // two steps, and the partition is halted from the tick behind the one of its exit
     Case {
-        image: EXIT,
+        source: EXIT,
         window: "[[window]]\nstart = 0\nlength = 20\npartition = \"p\"\n",
         ticks: 30,
         written: "partition p exited\n  own ticks        used        idle        lost  after halt  lost ahead       steps\n         20           2           0           0          18           0           2\nthread does            since       steps   preempted       to run    to run own  least stack\n     1 halted              2           2           0            0             0   0x00001000\nthread ticks     running       ready       input       sleep        join       mutex   condition      relock\n     1 own             2           0           0           0           0           0           0           0\n     1 all             2           0           0           0           0           0           0           0\nthread activations       least        mean    greatest     at tick   own least    own mean own greatest\nthread call                           made     refused\n     1 exit                              1           0\n mutex longest       ticks   own ticks      thread     at tick\n\n",
@@ -45,14 +58,14 @@ const CASES: [Case<'static>; 3] = [
     // a call of 4 ticks has room for 1 at the end of the first window and for 2 at that of the second, whose second is
     // tick 56
     Case {
-        image: PUTS,
+        source: PUTS,
         window: "[[window]]\nstart = 0\nlength = 17\npartition = \"p\"\n",
         ticks: 56,
         written: "partition p running\n  own ticks        used        idle        lost  after halt  lost ahead       steps\n         33          31           0           2           0           1          13\nthread does            since       steps   preempted       to run    to run own  least stack\n     1 running             0          13           0            0             0   0x00001000\nthread ticks     running       ready       input       sleep        join       mutex   condition      relock\n     1 own            33           0           0           0           0           0           0           0\n     1 all            56           0           0           0           0           0           0           0\nthread activations       least        mean    greatest     at tick   own least    own mean own greatest\nthread call                           made     refused\n     1 console_put                       6           0\n mutex longest       ticks   own ticks      thread     at tick\n\n",
     },
     // woken at 30, with 3 ticks lost at 33 and blocked from 46 on; woken at 60 and blocked from 69 on
     Case {
-        image: SLEEPS,
+        source: SLEEPS,
         window: "[[window]]\nstart = 0\nlength = 36\npartition = \"p\"\n",
         ticks: 70,
         written: "partition p idle\n  own ticks        used        idle        lost  after halt  lost ahead       steps\n         66          29          34           3           0           0          14\nthread does            since       steps   preempted       to run    to run own  least stack\n     1 sleep              69          14           0            0             0   0x00001000\nthread ticks     running       ready       input       sleep        join       mutex   condition      relock\n     1 own            32           0           0          34           0           0           0           0\n     1 all            36           0           0          34           0           0           0           0\nthread activations       least        mean    greatest     at tick   own least    own mean own greatest\n     1           2           9          12          16          30           9          10           12\nthread call                           made     refused\n     1 clock_nanosleep                   3           0\n mutex longest       ticks   own ticks      thread     at tick\n\n",
@@ -84,10 +97,9 @@ fn is_run(
 
 // Whether this is written of the run of a case.
 fn is_written(alloc: Global, case: &Case<'_>, form: Form, written: &str) -> bool {
-    let mut files = Files::new(alloc);
-    let is_added = files.add("p.img", case.image).is_ok();
-    match config_of(alloc, &["frame = 40\n", P, NUMBERS, case.window]) {
-        Some(config) => is_added && is_run(alloc, &config, &files, case, form, written),
+    let parts = ["frame = 40\n", P, NUMBERS, case.window];
+    match guest_of(alloc, &parts, &[case.source]) {
+        Some((config, files)) => is_run(alloc, &config, &files, case, form, written),
         None => false,
     }
 }
