@@ -1,4 +1,4 @@
-//! The figures of runs of three small guests. What they are was worked out by hand from the costs of docs/GUEST_ABI.md;
+//! The figures of runs of four small guests. What they are was worked out by hand from the costs of docs/GUEST_ABI.md;
 //! the ticks stand beside the guests. A helper that promises nothing is between the rows and the calls that they test.
 
 use ptk_main_commands::statistics::{Form, stats_with};
@@ -38,6 +38,43 @@ sleep:
     j sleep             # 31, 61
 ";
 
+/// Thread 1 locks a mutex and creates thread 2, of a greater priority, which tries in vain to lock the mutex, and waits
+/// for it until thread 1 unlocks it. Both end.
+const LOCKS: &str = "
+    la a0, lock         #   0
+    li a7, 22           #   2  mutex_lock: it is set up as mutex 1
+    ecall               #   3
+    la a0, attributes   #  11
+    la a1, second       #  13
+    li a7, 10           #  15  create
+    ecall               #  16
+    la a0, lock         #  58
+    li a7, 25           #  60  mutex_unlock
+    ecall               #  80: 9 ticks were left at 61
+    li a7, 11           # 124  pthread_exit
+    ecall               # 125, the gate at 131
+second:
+    la a0, lock         #  28
+    li a7, 23           #  40  mutex_trylock: thread 1 has it
+    ecall               #  41
+    la a0, lock         #  47
+    li a7, 22           #  49  mutex_lock
+    ecall               #  50, blocked from 58 on
+    la a0, lock         #  90
+    li a7, 25           #  92  mutex_unlock
+    ecall               #  93
+    ret                 # 103, the gate at 104 and 120: 2 ticks were left at 108
+.data
+lock:
+    .word 0
+attributes:
+    .word 0             # joinable
+    .word 1             # explicit
+    .word 1             # SCHED_FIFO
+    .word 20            # priority
+    .word 0             # default stack
+";
+
 /// A guest, the window of its partition, a number of ticks, and what is written of its run.
 struct Case<'a> {
     source: &'a str,
@@ -47,7 +84,7 @@ struct Case<'a> {
 }
 
 /// What is written of each run.
-const CASES: [Case<'static>; 3] = [
+const CASES: [Case<'static>; 4] = [
     // two steps, and the partition is halted from the tick behind the one of its exit
     Case {
         source: EXIT,
@@ -69,6 +106,16 @@ const CASES: [Case<'static>; 3] = [
         window: "[[window]]\nstart = 0\nlength = 36\npartition = \"p\"\n",
         ticks: 70,
         written: "partition p idle\n  own ticks        used        idle        lost  after halt  lost ahead       steps\n         66          29          34           3           0           0          14\nthread does            since       steps   preempted       to run    to run own  least stack\n     1 sleep              69          14           0            0             0   0x00001000\nthread ticks     running       ready       input       sleep        join       mutex   condition      relock\n     1 own            32           0           0          34           0           0           0           0\n     1 all            36           0           0          34           0           0           0           0\nthread activations       least        mean    greatest     at tick   own least    own mean own greatest\n     1           2           9          12          16          30           9          10           12\nthread call                           made     refused\n     1 clock_nanosleep                   3           0\n mutex longest       ticks   own ticks      thread     at tick\n\n",
+    },
+    // own ticks are 0 to 29, 40 to 69, 80 to 109 and 120 to 139. Thread 1 runs from 0, 58 and 124 on, and is ready from
+    // 28 and 90 on, where thread 2 preempts it; with its end at 131 the partition is halted from 132 on. Thread 2 is
+    // ready from 16 and 80 on, runs from 28 and 90 on, waits from 58 on, and has ended at 124. The mutex is thread 1's
+    // from 3 to 80 and thread 2's from 80 to 93
+    Case {
+        source: LOCKS,
+        window: "[[window]]\nstart = 0\nlength = 30\npartition = \"p\"\n",
+        ticks: 140,
+        written: "partition p exited\n  own ticks        used        idle        lost  after halt  lost ahead       steps\n        110          91           0          11           8           0          32\nthread does            since       steps   preempted       to run    to run own  least stack\n     1 ended             132          17           2           34            24   0x00001000\n     2 ended             124          15           0           12            12   0x00000f00\nthread ticks     running       ready       input       sleep        join       mutex   condition      relock\n     1 own            58          44           0           0           0           0           0           0\n     1 all            68          64           0           0           0           0           0           0\n     2 own            44          22           0           0           0          12           0           0\n     2 all            64          22           0           0           0          22           0           0\nthread activations       least        mean    greatest     at tick   own least    own mean own greatest\nthread call                           made     refused\n     1 pthread_create                    1           0\n     1 pthread_exit                      1           0\n     1 pthread_mutex_lock                1           0\n     1 pthread_mutex_unlock              1           0\n     2 pthread_mutex_lock                1           0\n     2 pthread_mutex_trylock             1           1\n     2 pthread_mutex_unlock              1           0\n mutex longest       ticks   own ticks      thread     at tick\n     1 held             77          57           1           3\n     1 waited           22          12           2          58\n\n",
     },
 ];
 
