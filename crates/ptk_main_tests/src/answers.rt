@@ -61,7 +61,7 @@ fn run<'a, W: Write>(
     question: &RunQuestion<'_>,
     out: &mut W,
 ) -> Result<(), Fault<'a>> {
-    if question.ticks.ticks() > 1000 {
+    if question.ticks.ticks() > 5000 {
         return Ok(());
     }
     let mut nobody = Nobody;
@@ -187,6 +187,10 @@ fn check_answers(rt: &impl Abort, alloc: Global, config: &Config, files: &Files)
 const HELLO_JSON: &str =
     "{\"format\":\"ptk run 1\",\"ticks\":20,\"partitions\":[{\"name\":\"p\",\"status\":\"exit\",\"code\":0,\"steps\":9,\"lost\":0,\"output\":\"aGk=\"}]}\n";
 
+// The same at the first multiple of 1,024 ticks at which the partition has halted.
+const HALTED_JSON: &str =
+    "{\"format\":\"ptk run 1\",\"ticks\":1024,\"partitions\":[{\"name\":\"p\",\"status\":\"exit\",\"code\":0,\"steps\":9,\"lost\":0,\"output\":\"aGk=\"}]}\n";
+
 const REFUSED_JSON: &str =
     "{\"format\":\"ptk check 1\",\"answer\":\"refused\",\"fault\":\"ptk: config fault 2\",\"explanation\":\"key frame: missing\\n\"}\n";
 
@@ -199,6 +203,14 @@ fn check_expectations(rt: &impl Abort, alloc: Global, config: &Config, files: &F
     let mut out = Vec::new(alloc);
     assert!(rt; run(alloc, config, files, &json, &mut out) == Ok(()));
     assert!(rt; is_text(&out, HELLO_JSON));
+    let halted = RunQuestion {
+        until_halted: true,
+        ticks: Tick::new(5000),
+        ..json
+    };
+    let mut out = Vec::new(alloc);
+    assert!(rt; run(alloc, config, files, &halted, &mut out) == Ok(()));
+    assert!(rt; is_text(&out, HALTED_JSON));
     let same = RunQuestion {
         expected: Some(HELLO_REPORT.as_bytes()),
         until_halted: true,
