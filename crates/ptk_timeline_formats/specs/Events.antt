@@ -28,13 +28,13 @@ use Rattle.ptk_timeline_formats.specs.Signals.{is_free}
 -- ---- words
 
 -- the word of a wait (own)
-abbrev pub word_of_wait : Wait → List ℕ
-word_of_wait InputWait = codes "console"
-word_of_wait (SleepWait deadline) = codes "sleep"
-word_of_wait (JoinWait thread) = codes "join"
-word_of_wait (MutexWait m deadline) = codes "mutex"
-word_of_wait (ConditionWait c m deadline) = codes "condition"
-word_of_wait (RelockWait m reply) = codes "relock"
+abbrev pub shown_wait_word : Wait → List ℕ
+shown_wait_word InputWait = codes "console"
+shown_wait_word (SleepWait deadline) = codes "sleep"
+shown_wait_word (JoinWait thread) = codes "join"
+shown_wait_word (MutexWait m deadline) = codes "mutex"
+shown_wait_word (ConditionWait c m deadline) = codes "condition"
+shown_wait_word (RelockWait m reply) = codes "relock"
 
 -- the word of what a thread does (own)
 abbrev pub word_of_doing : Doing → List ℕ
@@ -42,7 +42,7 @@ word_of_doing doing.Free = codes "free"
 word_of_doing doing.Running = codes "running"
 word_of_doing doing.Suspended = codes "suspended"
 word_of_doing doing.Ready = codes "ready"
-word_of_doing (doing.Blocked wait) = word_of_wait wait
+word_of_doing (doing.Blocked wait) = shown_wait_word wait
 word_of_doing doing.Ended = codes "ended"
 word_of_doing doing.Halted = codes "halted"
 

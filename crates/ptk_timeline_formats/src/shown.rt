@@ -3,7 +3,7 @@
 ghost use Rattle.std.specs.Prelude.{◌≡◌, ◌<◌, length};
 ghost use Rattle.ptk_main_runs.specs.World.{state_of};
 ghost use Rattle.ptk_timeline_formats.specs.Shown.{doing_of, is_step_of, shown_in};
-ghost use Rattle.ptk_timeline_formats.specs.Events.{word_of_doing, word_of_wait};
+ghost use Rattle.ptk_timeline_formats.specs.Events.{shown_wait_word, word_of_doing};
 ghost use Rattle.ptk_timeline_formats.specs.Signals.{state_number, wait_number};
 
 use crate::step::Step;
@@ -41,7 +41,7 @@ impl Label {
     /// The number and the word of a wait.
     fn of_wait(wait: &Wait) -> Label
         ensures number { result.number ≡ wait_number wait.now }
-        ensures word { result.word.now ≡ word_of_wait wait.now }
+        ensures word { result.word.now ≡ shown_wait_word wait.now }
     {
         let (number, word) = match wait {
             Wait::InputWait => (4, "console"),
