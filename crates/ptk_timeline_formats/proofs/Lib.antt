@@ -2,5 +2,6 @@ pub mod Lists
 pub mod Lines
 pub mod Texts
 pub mod Values
+pub mod Written
 pub mod JsonNames
 pub mod Holding

@@ -1,5 +1,5 @@
 -- The events of a trace, each a JSON object behind the ones before (Trace Event Format).
-use Rattle.std.specs.Prelude.{ℕ, ◌+◌, ◌-◌, List, [], ◌∷◌, ◌++◌, Bool, true, false, not, nat_lt, nat_le, ◌&&◌, ◌==◌, if◌then◌else◌, Option, Some, None, option_and_then, codes, decimal}
+use Rattle.std.specs.Prelude.{ℕ, ◌+◌, ◌-◌, List, [], ◌∷◌, ◌++◌, Bool, true, false, not, nat_lt, nat_le, ◌&&◌, ◌==◌, if◌then◌else◌, Option, Some, None, option_and_then, flat_map, codes, decimal}
 use Rattle.std.specs.Bool.{then_some}
 use Rattle.std.specs.List.{concat}
 use Rattle.std.specs.Str.{is_utf8}
@@ -260,6 +260,15 @@ change_events symbols p tick (Next t kept shown) = slice_text (thread_track p t)
 change_events symbols p tick (Woken by t) = flow_text p by t tick
 change_events symbols p tick (Lost ticks) = instant_text p tick (codes "ticks lost") (codes "ticks") ticks
 change_events symbols p tick (Dropped bytes) = instant_text p tick (codes "input lost") (codes "bytes") bytes
+
+-- the events of a change; none where there is no change (own)
+abbrev pub events_if : List (ℕ × List ℕ) → ℕ → ℕ → Option Change → List ℕ
+events_if symbols p tick None = []
+events_if symbols p tick (Some change) = change_events symbols p tick change
+
+-- the events of changes, in their order (own)
+abbrev pub changes_events : List (ℕ × List ℕ) → ℕ → ℕ → List (Option Change) → List ℕ
+changes_events symbols p tick changes = flat_map (events_if symbols p tick) changes
 
 -- the events of a thread that is shown otherwise than before: its track's name where no thread had the number, else the slice of what was shown (own)
 unfoldable pub shown_events : List (ℕ × List ℕ) → ℕ → ℕ → ℕ → ShownSince → Shown → Option ℕ → List ℕ

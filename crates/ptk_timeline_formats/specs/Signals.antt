@@ -137,14 +137,22 @@ change_lines at tick p change = if is_signal change then lines_at at tick (value
 abbrev pub tick_behind : ℕ → ℕ → Change → ℕ
 tick_behind at tick change = if is_signal change then tick else at
 
+-- what a dump has of a change at a tick; nothing where there is no change
+abbrev pub lines_if : ℕ → ℕ → ℕ → Option Change → List ℕ
+lines_if at tick p None = []
+lines_if at tick p (Some change) = change_lines at tick p change
+
+-- the tick of which a dump's last line is behind that
+abbrev pub tick_behind_if : ℕ → ℕ → Option Change → ℕ
+tick_behind_if at tick None = at
+tick_behind_if at tick (Some change) = tick_behind at tick change
+
 -- what a dump has of changes at a tick, in their order, whose last line before them is of tick `at`; nothing of a place without a change (IEEE 1364-2005, 18.2.1)
 abbrev pub changes_lines : ℕ → ℕ → ℕ → List (Option Change) → List ℕ
 changes_lines at tick p [] = []
-changes_lines at tick p (None ∷ rest) = changes_lines at tick p rest
-changes_lines at tick p (Some change ∷ rest) = change_lines at tick p change ++ changes_lines (tick_behind at tick change) tick p rest
+changes_lines at tick p (change ∷ rest) = lines_if at tick p change ++ changes_lines (tick_behind_if at tick change) tick p rest
 
 -- the tick of which a dump's last line is behind changes, in their order
 abbrev pub tick_behind_all : ℕ → ℕ → List (Option Change) → ℕ
 tick_behind_all at tick [] = at
-tick_behind_all at tick (None ∷ rest) = tick_behind_all at tick rest
-tick_behind_all at tick (Some change ∷ rest) = tick_behind_all (tick_behind at tick change) tick rest
+tick_behind_all at tick (change ∷ rest) = tick_behind_all (tick_behind_if at tick change) tick rest

@@ -34,8 +34,8 @@ ghost use Rattle.std.specs.Prelude.{◌≡◌, ◌<◌, ◌≤◌, false, OnOk};
 ghost use Rattle.std.specs.Io.KnownBytes.{Appends};
 ghost use Rattle.ptk_words.specs.declared.TheConstants.{LAST_TICK};
 ghost use Rattle.ptk_timeline_formats.specs.declared.sheet.Form.TheVariants.{Vcd, Events};
-ghost use Rattle.ptk_timeline_formats.specs.Events.{change_events};
-ghost use Rattle.ptk_timeline_formats.specs.Signals.{change_lines, changes_lines, is_signal, text_behind_first, tick_behind, tick_behind_all, tick_line};
+ghost use Rattle.ptk_timeline_formats.specs.Events.{change_events, changes_events, events_if};
+ghost use Rattle.ptk_timeline_formats.specs.Signals.{change_lines, changes_lines, is_signal, lines_if, text_behind_first, tick_behind, tick_behind_all, tick_behind_if, tick_line};
 
 impl Form {
     /// What is between the first values and what changes.
@@ -102,7 +102,6 @@ impl<'a, 's> Sheet<'a, 's> {
     }
 
     /// Writes what changes of a partition at a tick, in this order.
-    #[tactic(auto, using(crate::proofs::Lines::one_more, crate::proofs::Lines::none_more))]
     pub(crate) fn put_each<W: Write>(
         &mut self,
         p: PartId,
@@ -119,13 +118,41 @@ impl<'a, 's> Sheet<'a, 's> {
         ensures behind { self.old.form ≡ Vcd → OnOk result (self.new.at ≡ tick_behind_all self.old.at tick changes.now) }
         ensures dump { self.old.form ≡ Vcd → OnOk result (Appends (W.contents out.old) (W.contents out.new)
             (changes_lines self.old.at tick p changes.now)) }
+        ensures symbols { self.new.symbols.now ≡ self.old.symbols.now }
+        ensures events { self.old.form ≡ Events → OnOk result (Appends (W.contents out.old) (W.contents out.new)
+            (changes_events self.old.symbols.now p tick changes.now)) }
     {
         for change in changes.iter() {
-            if let Some(change) = change {
-                self.put(p, tick, change, out)?;
-            }
+            self.put_if(p, tick, change, out)?;
         }
         Ok(())
+    }
+
+    /// Writes a change of a partition at a tick, if there is one.
+    fn put_if<W: Write>(
+        &mut self,
+        p: PartId,
+        tick: u64,
+        change: &Option<Change<'_>>,
+        out: &mut W,
+    ) -> Result<(), PutFault>
+        requires from { self.old.at ≤ tick }
+        requires to { tick ≤ self.old.to }
+        ensures from { self.old.at ≤ self.new.at }
+        ensures within { self.new.at ≤ tick }
+        ensures to { self.new.to ≡ self.old.to }
+        ensures form { self.new.form ≡ self.old.form }
+        ensures behind { self.old.form ≡ Vcd → self.new.at ≡ tick_behind_if self.old.at tick change.now }
+        ensures dump { self.old.form ≡ Vcd → OnOk result (Appends (W.contents out.old) (W.contents out.new)
+            (lines_if self.old.at tick p change.now)) }
+        ensures symbols { self.new.symbols.now ≡ self.old.symbols.now }
+        ensures events { self.old.form ≡ Events → OnOk result (Appends (W.contents out.old) (W.contents out.new)
+            (events_if self.old.symbols.now p tick change.now)) }
+    {
+        match change {
+            Some(change) => self.put(p, tick, change, out),
+            None => Ok(()),
+        }
     }
 
     /// Writes what changes of a partition at a tick, after the line of the tick where the format has one. A dump writes
