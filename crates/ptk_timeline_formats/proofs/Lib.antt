@@ -3,5 +3,6 @@ pub mod Lines
 pub mod Texts
 pub mod Values
 pub mod Written
+pub mod Traces
 pub mod JsonNames
 pub mod Holding

@@ -1,7 +1,7 @@
 -- The events of a trace, each a JSON object behind the ones before (Trace Event Format).
 use Rattle.std.specs.Prelude.{ℕ, ◌+◌, ◌-◌, List, [], ◌∷◌, ◌++◌, Bool, true, false, not, nat_lt, nat_le, ◌&&◌, ◌==◌, if◌then◌else◌, Option, Some, None, option_and_then, flat_map, codes, decimal}
 use Rattle.std.specs.Bool.{then_some}
-use Rattle.std.specs.List.{concat}
+use Rattle.std.specs.List.{concat, enumerate_from}
 use Rattle.std.specs.Str.{is_utf8}
 use Rattle.json.specs.Print.{quoted}
 use Rattle.ptk_words.specs.Names.{ThreadNumber}
@@ -23,6 +23,7 @@ use Rattle.ptk_timeline_formats.specs.declared.shown.Doing.{Doing}
 use Rattle.ptk_timeline_formats.specs.declared.shown.Doing.TheVariants as doing
 use Rattle.ptk_timeline_formats.specs.declared.shown.Shown.{Shown}
 use Rattle.ptk_timeline_formats.specs.declared.step.Step.{Step}
+use Rattle.ptk_timeline_formats.specs.Shown.{is_step_of, shown_in}
 use Rattle.ptk_timeline_formats.specs.Signals.{is_free}
 
 -- ---- words
@@ -280,6 +281,16 @@ abbrev pub thread_events : Bool → Bool → List (ℕ × List ℕ) → Option S
 thread_events is_same does_same symbols step s p t tick kept after =
     if is_same then []
     else (shown_events symbols p t tick kept after (pc_in t s) ++ waking_text p t tick (waker_of (is_woken does_same tick kept.shown.doing) t step))
+
+-- the same of a thread by its number, with what is kept of it, by tests of what is the same (own)
+unfoldable pub numbered_events : (Shown → Shown → Bool) → (Doing → Doing → Bool) → List (ℕ × List ℕ) → Option Step → Part → ℕ → ℕ → ℕ × ShownSince → List ℕ
+numbered_events same does_same symbols step s p tick thread =
+    let after : Shown = shown_in (is_step_of step thread.0) thread.0 s in
+    thread_events (same after thread.1.shown) (does_same thread.1.shown.doing after.doing) symbols step s p thread.0 tick thread.1 after
+
+-- the events at a tick of the threads of a partition in a state, of which these are kept, by number from 1 (own)
+unfoldable pub threads_events : (Shown → Shown → Bool) → (Doing → Doing → Bool) → List (ℕ × List ℕ) → Option Step → Part → ℕ → ℕ → List ShownSince → List ℕ
+threads_events same does_same symbols step s p tick threads = flat_map (numbered_events same does_same symbols step s p tick) (enumerate_from 1 threads)
 
 -- ---- the head of a trace
 

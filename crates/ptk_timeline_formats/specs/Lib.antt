@@ -5,4 +5,5 @@ pub mod Signals
 pub mod Events
 pub mod Holders
 pub mod Texts
+pub mod Traces
 pub use Rattle.ptk_main_runs.specs.Missing

@@ -15,9 +15,12 @@
 //!   which changes a view writes: of what is shown, all that is not as before (`dump` of `PartView::show`, `decide`,
 //!   `go_on` and `settle`: `part_text`), and all of it at the first tick (`dump` of `PartView::put_all`:
 //!   `first_text`). What is before the first of them is tested.
-//! - What trace events have of a change is the definition's too (`events` of `Sheet::put`: `change_events`), and so are
-//!   who has ended a thread's wait (`waker_of`, `put_waking`) and what the begin and the end of a window write in both
-//!   forms (`open_window`, `close_window`). Which changes a view writes as events, and what is before them, is tested.
+//! - What trace events have of changes is the definition's too (`events` of `Sheet::put_each`: `change_events`), and so
+//!   is which changes a view writes: of what is shown, all that is not as before (`events` of `PartView::show`, `go_on`
+//!   and `settle`: `part_events`), at a decision what is lost too (`decide`: `decision_events`), the names of the threads
+//!   at the first tick and their slices at the last (`put_all`: `first_events`; `put_rest`: `last_events`). So are who
+//!   has ended a thread's wait (`waker_of`, `put_waking`), and what the begin and the end of a window write in both
+//!   forms (`open_window`, `close_window`). What is before the events is tested.
 //!
 //! GTKWave opens the first (IEEE 1364-2005, section 18), Perfetto and chrome://tracing the second. Both go from change
 //! to change and keep of each thread what was shown of it last, so memory does not grow with the run. Below are the

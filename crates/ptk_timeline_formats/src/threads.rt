@@ -6,7 +6,7 @@ ghost use Rattle.ptk_words.specs.declared.TheConstants.{LAST_TICK, THREAD_LIMIT}
 ghost use Rattle.ptk_main_runs.specs.Told.{pc_in};
 ghost use Rattle.ptk_main_runs.specs.World.{state_of};
 ghost use Rattle.ptk_timeline_formats.specs.declared.sheet.Form.TheVariants.{Vcd, Events};
-ghost use Rattle.ptk_timeline_formats.specs.Events.{ends_by_itself, has_come, is_woken, shown_events, thread_events, waker_of, waking_text};
+ghost use Rattle.ptk_timeline_formats.specs.Events.{ends_by_itself, has_come, is_woken, shown_events, thread_events, threads_events, waker_of, waking_text};
 ghost use Rattle.ptk_timeline_formats.specs.Shown.{AreShown, is_step_of, shown_in};
 ghost use Rattle.ptk_timeline_formats.specs.Signals.{lines_at, shown_lines};
 ghost use Rattle.ptk_timeline_formats.specs.Texts.{thread_text, threads_text};
@@ -63,6 +63,10 @@ pub(crate) fn show_threads<W: Write>(
     ensures dump { sheet.old.form ≡ Vcd → OnOk result (Appends (W.contents out.old) (W.contents out.new)
         (threads_text ⟦<Shown as PartialEq>⟧.eq (λ t. shown_in (is_step_of step.now t) t (state_of system.now p).part)
         sheet.old.at tick p 1 (take THREAD_LIMIT threads.old))) }
+    ensures symbols { sheet.new.symbols.now ≡ sheet.old.symbols.now }
+    ensures events { sheet.old.form ≡ Events → OnOk result (Appends (W.contents out.old) (W.contents out.new)
+        (threads_events ⟦<Shown as PartialEq>⟧.eq ⟦<Doing as PartialEq>⟧.eq sheet.old.symbols.now step.now (state_of system.now p).part
+        p tick (take THREAD_LIMIT threads.old))) }
 {
     for i in 0..threads.len().min(THREAD_LIMIT as usize) {
         let t = ThreadNo::new(i as u8 + 1);
@@ -96,6 +100,7 @@ fn show_thread<W: Write>(
     ensures dump { let after = shown_in (is_step_of step.now t) t (state_of system.now p).part in
         sheet.old.form ≡ Vcd → OnOk result (Appends (W.contents out.old) (W.contents out.new)
         (thread_text (⟦<Shown as PartialEq>⟧.eq after kept.now.shown) sheet.old.at tick p t kept.now.shown after)) }
+    ensures symbols { sheet.new.symbols.now ≡ sheet.old.symbols.now }
     ensures events { let after = shown_in (is_step_of step.now t) t (state_of system.now p).part in
         sheet.old.form ≡ Events → OnOk result (Appends (W.contents out.old) (W.contents out.new)
         (thread_events (⟦<Shown as PartialEq>⟧.eq after kept.now.shown) (⟦<Doing as PartialEq>⟧.eq kept.now.shown.doing after.doing)

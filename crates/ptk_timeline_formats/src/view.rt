@@ -4,14 +4,15 @@ ghost use Rattle.std.specs.Prelude.{◌≡◌, ℕ, ◌+◌, ◌<◌, ◌≤◌,
 ghost use Rattle.std.specs.Io.KnownBytes.{Appends};
 ghost use Rattle.ptk_words.specs.declared.TheConstants.{LAST_TICK, THREAD_LIMIT};
 ghost use Rattle.ptk_main_runs.specs.World.{at_tick, but_next, state_of};
-ghost use Rattle.ptk_timeline_formats.specs.declared.sheet.Form.TheVariants.{Vcd};
+ghost use Rattle.ptk_timeline_formats.specs.declared.sheet.Form.TheVariants.{Vcd, Events};
 ghost use Rattle.ptk_timeline_formats.specs.Shown.{AreShown, kept_in, runner_shown, start_in, status_shown};
 ghost use Rattle.ptk_timeline_formats.specs.Steps.{is_step_over, step_since, step_within, tick_behind_step};
 ghost use Rattle.ptk_timeline_formats.specs.Texts.{first_text, part_text};
+ghost use Rattle.ptk_timeline_formats.specs.Traces.{decision_events, first_events, last_events, lost_events, part_events};
 
 use crate::change::{Change, ShownSince};
 use crate::sheet::Sheet;
-use crate::shown::Shown;
+use crate::shown::{Doing, Shown};
 use crate::step::Step;
 use crate::threads::{first_threads, show_threads};
 use ptk_main_runs::{PartStatus, PutFault, System};
@@ -69,7 +70,11 @@ impl PartView {
         requires within { sheet.old.at ≤ sheet.old.to }
         ensures within { sheet.new.at ≤ sheet.old.at }
         ensures to { sheet.new.to ≡ sheet.old.to }
+        ensures form { sheet.new.form ≡ sheet.old.form }
         ensures dump { sheet.old.form ≡ Vcd → OnOk result (Appends (W.contents out.old) (W.contents out.new) (first_text p self.now)) }
+        ensures symbols { sheet.new.symbols.now ≡ sheet.old.symbols.now }
+        ensures events { sheet.old.form ≡ Events → OnOk result (Appends (W.contents out.old) (W.contents out.new)
+            (first_events sheet.old.symbols.now (state_of system.now p).part p sheet.old.at self.now)) }
     {
         let tick = sheet.at();
         let first = [
@@ -97,6 +102,10 @@ impl PartView {
         requires within { sheet.old.at ≤ sheet.old.to }
         ensures within { sheet.new.at ≤ sheet.old.to }
         ensures to { sheet.new.to ≡ sheet.old.to }
+        ensures form { sheet.new.form ≡ sheet.old.form }
+        ensures symbols { sheet.new.symbols.now ≡ sheet.old.symbols.now }
+        ensures events { sheet.old.form ≡ Events → OnOk result (Appends (W.contents out.old) (W.contents out.new)
+            (last_events p sheet.old.to self.now)) }
     {
         let to = sheet.to();
         for i in 0..self.threads.len().min(THREAD_LIMIT as usize) {
@@ -124,6 +133,8 @@ impl PartView {
         requires to { end ≤ sheet.old.to }
         ensures within { sheet.new.at ≤ end }
         ensures to { sheet.new.to ≡ sheet.old.to }
+        ensures form { sheet.new.form ≡ sheet.old.form }
+        ensures symbols { sheet.new.symbols.now ≡ sheet.old.symbols.now }
         ensures config { system.new.config ≡ system.old.config }
     {
         self.step = None;
@@ -157,6 +168,7 @@ impl PartView {
         requires step { IfSome self.old.step (λ step. (sheet.old.at ≤ step.until) × (step.until ≤ end)) }
         ensures within { sheet.new.at ≤ due }
         ensures to { sheet.new.to ≡ sheet.old.to }
+        ensures form { sheet.new.form ≡ sheet.old.form }
         ensures step { self.new.step ≡ self.old.step }
         ensures kept { MatchBool (is_step_over due end self.old.step)
             (self.new ≡ record self.old { status = status_shown None (state_of system.now p).part; runner = runner_shown None (state_of system.now p).part; threads = self.new.threads })
@@ -168,6 +180,11 @@ impl PartView {
             (OnOk result (Appends (W.contents out.old) (W.contents out.new)
             (part_text ⟦<PartStatus as PartialEq>⟧.eq ⟦<Option<ThreadNo> as PartialEq>⟧.eq ⟦<Shown as PartialEq>⟧.eq
             None (state_of system.now p).part sheet.old.at (tick_behind_step due self.old.step) p self.old))) ⊤ }
+        ensures symbols { sheet.new.symbols.now ≡ sheet.old.symbols.now }
+        ensures events { sheet.old.form ≡ Events → MatchBool (is_step_over due end self.old.step)
+            (OnOk result (Appends (W.contents out.old) (W.contents out.new)
+            (part_events ⟦<PartStatus as PartialEq>⟧.eq ⟦<Option<ThreadNo> as PartialEq>⟧.eq ⟦<Shown as PartialEq>⟧.eq ⟦<Doing as PartialEq>⟧.eq
+            sheet.old.symbols.now None (state_of system.now p).part p (tick_behind_step due self.old.step) self.old))) ⊤ }
     {
         let Some(step) = &self.step else {
             return Ok(());
@@ -195,6 +212,7 @@ impl PartView {
         requires to { end ≤ sheet.old.to }
         ensures within { sheet.new.at ≤ tick }
         ensures to { sheet.new.to ≡ sheet.old.to }
+        ensures form { sheet.new.form ≡ sheet.old.form }
         ensures step { OnOk result (IfSome self.new.step (λ step. (tick < step.until) × (step.until ≤ end))) }
         ensures kept { OnOk result (self.new ≡
             kept_in (step_since self.old.steps tick end (state_of system.now p)) (state_of system.now p) self.new) }
@@ -204,6 +222,10 @@ impl PartView {
         ensures dump { sheet.old.form ≡ Vcd → OnOk result (Appends (W.contents out.old) (W.contents out.new)
             (part_text ⟦<PartStatus as PartialEq>⟧.eq ⟦<Option<ThreadNo> as PartialEq>⟧.eq ⟦<Shown as PartialEq>⟧.eq
             (step_since self.old.steps tick end (state_of system.now p)) (state_of system.now p).part sheet.old.at tick p self.old)) }
+        ensures symbols { sheet.new.symbols.now ≡ sheet.old.symbols.now }
+        ensures events { sheet.old.form ≡ Events → OnOk result (Appends (W.contents out.old) (W.contents out.new)
+            (decision_events ⟦<PartStatus as PartialEq>⟧.eq ⟦<Option<ThreadNo> as PartialEq>⟧.eq ⟦<Shown as PartialEq>⟧.eq ⟦<Doing as PartialEq>⟧.eq
+            sheet.old.symbols.now (step_since self.old.steps tick end (state_of system.now p)) (state_of system.now p) p tick self.old)) }
     {
         let step = Step::since(system, p, self.steps, tick, end);
         self.show(system, p, &step, tick, sheet, out)?;
@@ -233,6 +255,7 @@ impl PartView {
         ensures step { OnOk result (IfSome self.new.step (λ step. (sheet.new.at ≤ step.until) × (step.until ≤ end))) }
         ensures within { sheet.new.at ≤ end }
         ensures to { sheet.new.to ≡ sheet.old.to }
+        ensures form { sheet.new.form ≡ sheet.old.form }
         ensures behind { IfOk result (λ begin. begin ≡ tick_behind_step tick self.old.step) }
         ensures kept { let begin = tick_behind_step tick self.old.step in
             MatchOption (step_within self.old.steps begin end (state_of system.now p))
@@ -247,6 +270,12 @@ impl PartView {
             (λ step. OnOk result (Appends (W.contents out.old) (W.contents out.new)
             (part_text ⟦<PartStatus as PartialEq>⟧.eq ⟦<Option<ThreadNo> as PartialEq>⟧.eq ⟦<Shown as PartialEq>⟧.eq
             (Some step) (state_of system.now p).part sheet.old.at begin p self.old))) }
+        ensures symbols { sheet.new.symbols.now ≡ sheet.old.symbols.now }
+        ensures events { let begin = tick_behind_step tick self.old.step in
+            sheet.old.form ≡ Events → IfSome (step_within self.old.steps begin end (state_of system.now p))
+            (λ step. OnOk result (Appends (W.contents out.old) (W.contents out.new)
+            (part_events ⟦<PartStatus as PartialEq>⟧.eq ⟦<Option<ThreadNo> as PartialEq>⟧.eq ⟦<Shown as PartialEq>⟧.eq ⟦<Doing as PartialEq>⟧.eq
+            sheet.old.symbols.now (Some step) (state_of system.now p).part p begin self.old))) }
     {
         let begin = Step::end_of(&self.step, tick, end);
         let step = Step::within(system, p, self.steps, begin, end);
@@ -283,6 +312,10 @@ impl PartView {
         ensures dump { sheet.old.form ≡ Vcd → OnOk result (Appends (W.contents out.old) (W.contents out.new)
             (part_text ⟦<PartStatus as PartialEq>⟧.eq ⟦<Option<ThreadNo> as PartialEq>⟧.eq ⟦<Shown as PartialEq>⟧.eq
             step.now (state_of system.now p).part sheet.old.at tick p self.old)) }
+        ensures symbols { sheet.new.symbols.now ≡ sheet.old.symbols.now }
+        ensures events { sheet.old.form ≡ Events → OnOk result (Appends (W.contents out.old) (W.contents out.new)
+            (part_events ⟦<PartStatus as PartialEq>⟧.eq ⟦<Option<ThreadNo> as PartialEq>⟧.eq ⟦<Shown as PartialEq>⟧.eq ⟦<Doing as PartialEq>⟧.eq
+            sheet.old.symbols.now step.now (state_of system.now p).part p tick self.old)) }
     {
         let (status, runner) = (status_of(system, p, step), runner_of(system, p, step));
         let changes = [
@@ -314,6 +347,9 @@ impl PartView {
         ensures kept { self.new ≡ record self.old { lost = (state_of system.now p).account.lost; dropped = (state_of system.now p).part.console.dropped } }
         ensures form { sheet.new.form ≡ sheet.old.form }
         ensures dump { sheet.old.form ≡ Vcd → OnOk result (Appends (W.contents out.old) (W.contents out.new) []) }
+        ensures symbols { sheet.new.symbols.now ≡ sheet.old.symbols.now }
+        ensures events { sheet.old.form ≡ Events → OnOk result (Appends (W.contents out.old) (W.contents out.new)
+            (lost_events sheet.old.symbols.now (state_of system.now p) p tick self.old)) }
     {
         let (lost, dropped) = (system.lost(p), system.dropped(p));
         let ticks = lost.saturating_sub(self.lost);

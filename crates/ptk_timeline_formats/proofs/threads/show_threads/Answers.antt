@@ -1,14 +1,19 @@
 use Rattle.std.proofs.Common.{◌≡◌, ◌≢◌, ℕ, ◌+◌, ◌<◌, ◌≤◌, length, get_or, take, ◌∙◌, ap, sym, subst, refl, arith, length-take, get_or-take, get_or-set_other}
 use Rattle.std.specs.Prelude.{if◌then◌else◌}
 use Rattle.std.specs.Io.KnownBytes.{Appends}
+use Rattle.std.proofs.KnownBytes.{Appends-nil}
 use Rattle.ptk_words.specs.declared.TheConstants.{THREAD_LIMIT}
 use Rattle.ptk_main_runs.specs.World.{state_of}
 use Rattle.ptk_timeline_formats.specs.declared.change.ShownSince.{ShownSince}
+use Rattle.ptk_timeline_formats.specs.contracts.shown.DoingPartialEq.TheImpl as doing_eq
 use Rattle.ptk_timeline_formats.specs.contracts.shown.ShownPartialEq.TheImpl as shown_eq
+use Rattle.ptk_timeline_formats.specs.Events.{numbered_events, threads_events}
 use Rattle.ptk_timeline_formats.specs.Shown.{is_step_of, shown_in}
 use Rattle.ptk_timeline_formats.specs.Texts.{thread_text}
 use Rattle.ptk_timeline_formats.proofs.Lists.{set_more}
 use Rattle.ptk_timeline_formats.proofs.Texts.{AreThreadTexts, no_thread, one_thread, all_threads}
+use Rattle.ptk_timeline_formats.proofs.Traces.{thread_traced}
+use Rattle.ptk_timeline_formats.proofs.Written.{all_numbered, numbered_more}
 use Rattle.ptk_timeline_formats.proofs.threads.show_threads.Goals as goal
 
 pub loop-i-init : goal.loop-i-init
@@ -20,6 +25,8 @@ loop-i-init g c = record {
   later = λ place default past. refl;
   texts = λ vcd. no_thread (shown_eq.ghosts).eq (λ (t : ℕ). shown_in (is_step_of c.args.step.now t) t (state_of c.args.system.now c.args.p).part) c.args.tick c.args.p
       (take THREAD_LIMIT c.args.threads.now) (g.W.Write.contents c.args.out.now) c.args.sheet.now.at;
+  symbols = refl;
+  events = λ traced. Appends-nil (g.W.Write.contents c.args.out.now);
 }
 
 pub loop-i-preserved : goal.loop-i-preserved
@@ -53,6 +60,14 @@ loop-i-preserved g c =
           (thread_text ((shown_eq.ghosts).eq (shown_in (is_step_of c.args.step.now t) t (state_of c.args.system.now c.args.p).part) (get_or c.loop-i.threads c.loop-i.i c.index-threads-i.result).shown)
           c.loop-i.sheet.at c.args.tick c.args.p t (get_or c.loop-i.threads c.loop-i.i c.index-threads-i.result).shown (shown_in (is_step_of c.args.step.now t) t (state_of c.args.system.now c.args.p).part)))
           number (c.in_ok-threads.ensures.dump (c.loop-i.invariant.form ∙ vcd))));
+      symbols = c.show_thread.ensures.symbols ∙ c.loop-i.invariant.symbols;
+      events = λ traced.
+          numbered_more (numbered_events (shown_eq.ghosts).eq (doing_eq.ghosts).eq c.args.sheet.now.symbols.now c.args.step.now (state_of c.args.system.now c.args.p).part c.args.p c.args.tick) 1
+          (g.W.Write.contents c.args.out.now) (g.W.Write.contents c.loop-i.out) (g.W.Write.contents c.show_thread.new.out) (take THREAD_LIMIT c.args.threads.now) c.loop-i.i c.new-t.result
+          (get_or c.loop-i.threads c.loop-i.i c.index-threads-i.result) c.index-threads-i.result some is (omega arith) (c.loop-i.invariant.events traced)
+          (thread_traced (shown_eq.ghosts).eq (doing_eq.ghosts).eq c.loop-i.sheet.symbols.now c.args.sheet.now.symbols.now c.args.step.now (state_of c.args.system.now c.args.p).part c.args.p c.args.tick c.new-t.result
+          (get_or c.loop-i.threads c.loop-i.i c.index-threads-i.result) (g.W.Write.contents c.loop-i.out) (g.W.Write.contents c.show_thread.new.out) c.loop-i.invariant.symbols
+          (c.in_ok-threads.ensures.events (c.loop-i.invariant.form ∙ traced)));
     }
 
 pub returns-clause-dump : goal.returns-clause-dump
@@ -61,3 +76,10 @@ returns-clause-dump g c = λ vcd.
     all_threads (shown_eq.ghosts).eq (λ (t : ℕ). shown_in (is_step_of c.args.step.now t) t (state_of c.args.system.now c.args.p).part) c.args.tick c.args.p
     (take THREAD_LIMIT c.args.threads.now) (g.W.Write.contents c.args.out.now) (g.W.Write.contents c.loop-i.out) c.args.sheet.now.at c.loop-i.sheet.at c.loop-i.i past
     (c.loop-i.invariant.texts vcd)
+
+pub returns-clause-events : goal.returns-clause-events
+unfolding threads_events
+returns-clause-events g c = λ traced.
+    let past : length (take THREAD_LIMIT c.args.threads.now) ≤ c.loop-i.i = omega (arith, length-take THREAD_LIMIT c.args.threads.now) in
+    all_numbered (numbered_events (shown_eq.ghosts).eq (doing_eq.ghosts).eq c.args.sheet.now.symbols.now c.args.step.now (state_of c.args.system.now c.args.p).part c.args.p c.args.tick) 1
+    (g.W.Write.contents c.args.out.now) (g.W.Write.contents c.loop-i.out) (take THREAD_LIMIT c.args.threads.now) c.loop-i.i past (c.loop-i.invariant.events traced)

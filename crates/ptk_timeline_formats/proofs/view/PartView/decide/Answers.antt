@@ -1,4 +1,4 @@
-use Rattle.std.proofs.Common.{[], ◌∙◌, subst, append-nil}
+use Rattle.std.proofs.Common.{[], ◌++◌, ◌∙◌, ap, subst, append-nil}
 use Rattle.std.specs.Prelude.{Option}
 use Rattle.std.specs.Option.{option_eq}
 use Rattle.std.specs.Io.KnownBytes.{Appends}
@@ -7,8 +7,12 @@ use Rattle.ptk_words.specs.contracts.numbers.ThreadNoPartialEq.TheImpl as number
 use Rattle.ptk_main_runs.below.ptk_system.specs.contracts.status.PartStatusPartialEq.TheImpl as status_eq
 use Rattle.ptk_main_runs.specs.World.{state_of}
 use Rattle.ptk_timeline_formats.specs.declared.step.Step.{Step}
+use Rattle.ptk_timeline_formats.specs.declared.view.PartView.{PartView}
+use Rattle.ptk_timeline_formats.specs.contracts.shown.DoingPartialEq.TheImpl as doing_eq
 use Rattle.ptk_timeline_formats.specs.contracts.shown.ShownPartialEq.TheImpl as shown_eq
 use Rattle.ptk_timeline_formats.specs.Texts.{part_text}
+use Rattle.ptk_timeline_formats.specs.Traces.{decision_events, lost_events, part_events}
+use Rattle.ptk_timeline_formats.proofs.Traces.{lost_kept}
 use Rattle.ptk_timeline_formats.proofs.view.PartView.decide.Goals as goal
 
 pub returns-clause-dump : goal.returns-clause-dump
@@ -21,3 +25,22 @@ returns-clause-dump g c = λ vcd.
     (Appends-trans (g.W.Write.contents c.args.out.now) (g.W.Write.contents c.show.new.out) (g.W.Write.contents c.mark.new.out)
     (part_text (status_eq.ghosts).eq (option_eq (number_eq.ghosts).eq) (shown_eq.ghosts).eq c.since-step.result (state_of c.args.system.now c.args.p).part c.args.sheet.now.at c.args.tick c.args.p c.args.self.now)
     [] (c.in_ok-show.ensures.dump vcd) (c.in_ok-mark.ensures.dump (c.show.ensures.form ∙ vcd))))
+
+pub returns-clause-events : goal.returns-clause-events
+unfolding decision_events
+returns-clause-events g c = λ traced.
+    let old = g.W.Write.contents c.args.out.now in
+    let shown = g.W.Write.contents c.show.new.out in
+    let new = g.W.Write.contents c.mark.new.out in
+    let symbols = c.args.sheet.now.symbols.now in
+    let state = state_of c.args.system.now c.args.p in
+    let lost : Appends shown new (lost_events symbols state c.args.p c.args.tick c.args.self.now) =
+    subst (Appends shown new) (lost_kept c.show.new.sheet.symbols.now symbols state c.args.p c.args.tick c.show.new.self c.args.self.now c.show.ensures.symbols
+    (ap (λ (v : PartView). v.lost) c.show.ensures.kept) (ap (λ (v : PartView). v.dropped) c.show.ensures.kept))
+    (c.in_ok-mark.ensures.events (c.show.ensures.form ∙ traced)) in
+    subst (λ (step : Option Step). Appends old new
+    (part_events (status_eq.ghosts).eq (option_eq (number_eq.ghosts).eq) (shown_eq.ghosts).eq (doing_eq.ghosts).eq symbols step state.part c.args.p c.args.tick c.args.self.now ++ lost_events symbols state c.args.p c.args.tick c.args.self.now))
+    c.since-step.ensures.step
+    (Appends-trans old shown new
+    (part_events (status_eq.ghosts).eq (option_eq (number_eq.ghosts).eq) (shown_eq.ghosts).eq (doing_eq.ghosts).eq symbols c.since-step.result state.part c.args.p c.args.tick c.args.self.now)
+    (lost_events symbols state c.args.p c.args.tick c.args.self.now) (c.in_ok-show.ensures.events traced) lost)

@@ -1,13 +1,17 @@
 use Rattle.std.proofs.Common.{◌≡◌, ℕ, ◌+◌, ◌*◌, ◌<◌, ◌≤◌, [], ◌∷◌, ◌++◌, Some, length, get_or, take, ◌∙◌, sym, subst, refl, arith, length-take, get_or-take}
 use Rattle.std.specs.List.{concat}
 use Rattle.std.specs.Io.KnownBytes.{Appends}
-use Rattle.std.proofs.KnownBytes.{Appends-trans}
+use Rattle.std.proofs.KnownBytes.{Appends-nil, Appends-trans}
 use Rattle.ptk_words.specs.declared.TheConstants.{THREAD_LIMIT}
+use Rattle.ptk_main_runs.specs.World.{state_of}
 use Rattle.ptk_timeline_formats.specs.declared.sheet.Form.TheVariants.{Vcd}
 use Rattle.ptk_timeline_formats.specs.declared.change.Change.TheVariants.{WindowEnds, Status, Runner}
 use Rattle.ptk_timeline_formats.specs.Signals.{SIGNALS, bit_line, changes_lines, lines_at, number_or_none, priority_line, state_line, status_number, vector_line}
 use Rattle.ptk_timeline_formats.specs.Texts.{values_text}
+use Rattle.ptk_timeline_formats.specs.Traces.{numbered_start}
 use Rattle.ptk_timeline_formats.proofs.Values.{no_values, more_values, all_values, lines_there, part_values}
+use Rattle.ptk_timeline_formats.proofs.Traces.{first_traced, start_traced}
+use Rattle.ptk_timeline_formats.proofs.Written.{all_numbered, numbered_more}
 use Rattle.ptk_timeline_formats.proofs.view.PartView.put_all.Goals as goal
 
 pub loop-i-init : goal.loop-i-init
@@ -17,6 +21,8 @@ loop-i-init g c = record {
   form = refl;
   there = λ vcd. c.in_ok-put_each.ensures.behind (sym c.put_each.ensures.form ∙ vcd);
   values = λ vcd. no_values c.args.p (take THREAD_LIMIT c.args.self.now.threads.items) (g.W.Write.contents c.put_each.new.out);
+  symbols = refl;
+  events = λ traced. Appends-nil (g.W.Write.contents c.put_each.new.out);
 }
 
 pub loop-i-preserved : goal.loop-i-preserved
@@ -41,6 +47,13 @@ loop-i-preserved g c =
           (subst (λ (at : ℕ). Appends (g.W.Write.contents c.loop-i.out) (g.W.Write.contents c.put.new.out)
           (lines_at at c.at-tick.result (state_line c.args.p c.new-t.result c.index.result.now.shown ++ priority_line c.args.p c.new-t.result c.index.result.now.shown)))
           (c.loop-i.invariant.there vcd) (c.in_ok-put.ensures.dump (c.loop-i.invariant.form ∙ vcd)))));
+      symbols = c.put.ensures.symbols ∙ c.loop-i.invariant.symbols;
+      events = λ traced.
+          numbered_more (numbered_start c.put_each.new.self.symbols.now (state_of c.args.system.now c.args.p).part c.args.p c.at-tick.result) 1
+          (g.W.Write.contents c.put_each.new.out) (g.W.Write.contents c.loop-i.out) (g.W.Write.contents c.put.new.out) (take THREAD_LIMIT c.args.self.now.threads.items) c.loop-i.i c.new-t.result
+          c.index.result.now c.index.result.now some is (omega arith) (c.loop-i.invariant.events traced)
+          (start_traced c.loop-i.sheet.symbols.now c.put_each.new.self.symbols.now (state_of c.args.system.now c.args.p).part c.args.p c.at-tick.result c.new-t.result c.index.result.now c.start_of-start.result
+          (g.W.Write.contents c.loop-i.out) (g.W.Write.contents c.put.new.out) c.loop-i.invariant.symbols c.start_of-start.ensures (c.in_ok-put.ensures.events (c.loop-i.invariant.form ∙ traced)));
     }
 
 pub returns-clause-dump : goal.returns-clause-dump
@@ -56,3 +69,12 @@ returns-clause-dump g c = λ vcd.
     (changes_lines c.args.sheet.now.at tick c.args.p (Some (WindowEnds tick) ∷ Some (Status c.args.self.now.status) ∷ Some (Runner c.args.self.now.runner) ∷ [])))
     c.at-tick.ensures (c.in_ok-put_each.ensures.dump vcd)))
     (all_values c.args.p (take THREAD_LIMIT c.args.self.now.threads.items) (g.W.Write.contents c.put_each.new.out) (g.W.Write.contents c.loop-i.out) c.loop-i.i past (c.loop-i.invariant.values first))
+
+pub returns-clause-events : goal.returns-clause-events
+returns-clause-events g c = λ traced.
+    let past : length (take THREAD_LIMIT c.args.self.now.threads.items) ≤ c.loop-i.i =
+    omega (arith, length-take THREAD_LIMIT c.args.self.now.threads.items, c.args.self.now.threads.ok.0) in
+    first_traced c.put_each.new.self.symbols.now c.args.sheet.now.symbols.now (state_of c.args.system.now c.args.p).part c.args.p c.at-tick.result c.args.sheet.now.at c.args.self.now
+    (g.W.Write.contents c.args.out.now) (g.W.Write.contents c.put_each.new.out) (g.W.Write.contents c.loop-i.out) c.put_each.ensures.symbols c.at-tick.ensures (c.in_ok-put_each.ensures.events traced)
+    (all_numbered (numbered_start c.put_each.new.self.symbols.now (state_of c.args.system.now c.args.p).part c.args.p c.at-tick.result) 1
+    (g.W.Write.contents c.put_each.new.out) (g.W.Write.contents c.loop-i.out) (take THREAD_LIMIT c.args.self.now.threads.items) c.loop-i.i past (c.loop-i.invariant.events (c.put_each.ensures.form ∙ traced)))

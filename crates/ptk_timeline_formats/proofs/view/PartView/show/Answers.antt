@@ -1,8 +1,8 @@
-use Rattle.std.proofs.Common.{ℕ, List, ◌∙◌, take}
+use Rattle.std.proofs.Common.{ℕ, List, ◌∙◌, subst, take}
 use Rattle.std.specs.Prelude.{not}
 use Rattle.std.specs.Bool.{then_some}
 use Rattle.std.specs.Option.{option_eq}
-use Rattle.std.proofs.lemmas.Result.{IfOk-weaker}
+use Rattle.std.proofs.lemmas.Result.{IfOk-weaker, on_ok_weaker}
 use Rattle.std.specs.Io.KnownBytes.{Appends}
 use Rattle.ptk_words.specs.declared.TheConstants.{THREAD_LIMIT}
 use Rattle.ptk_words.specs.contracts.numbers.ThreadNoPartialEq.TheImpl as number_eq
@@ -10,10 +10,14 @@ use Rattle.ptk_main_runs.below.ptk_system.specs.contracts.status.PartStatusParti
 use Rattle.ptk_main_runs.specs.World.{state_of}
 use Rattle.ptk_timeline_formats.specs.declared.change.ShownSince.{ShownSince}
 use Rattle.ptk_timeline_formats.specs.declared.change.Change.TheVariants.{Status, Runner}
+use Rattle.ptk_timeline_formats.specs.contracts.shown.DoingPartialEq.TheImpl as doing_eq
 use Rattle.ptk_timeline_formats.specs.contracts.shown.ShownPartialEq.TheImpl as shown_eq
+use Rattle.ptk_timeline_formats.specs.Events.{threads_events}
 use Rattle.ptk_timeline_formats.specs.Shown.{is_step_of, runner_shown, shown_in, status_shown}
 use Rattle.ptk_timeline_formats.specs.Texts.{part_text, threads_text}
+use Rattle.ptk_timeline_formats.specs.Traces.{part_events}
 use Rattle.ptk_timeline_formats.proofs.Texts.{change_if_other, part_written}
+use Rattle.ptk_timeline_formats.proofs.Traces.{part_traced}
 use Rattle.ptk_timeline_formats.proofs.view.PartView.show.Goals as goal
 
 pub returns-clause-dump : goal.returns-clause-dump
@@ -38,3 +42,25 @@ returns-clause-dump g c = λ vcd.
     c.then_some-2.ensures c.ne-2.ensures c.runner_of-runner.ensures)
     (c.in_ok-put_each.ensures.dump vcd) (c.in_ok-put_each.ensures.behind vcd) c.as_mut_slice-threads.ensures.value written)
     (c.show_threads.ensures.dump (c.put_each.ensures.form ∙ vcd))
+
+pub returns-clause-events : goal.returns-clause-events
+unfolding part_events
+returns-clause-events g c = λ traced.
+    on_ok_weaker c.show_threads.result
+    (λ written. part_traced
+    (λ (threads : List ShownSince). threads_events (shown_eq.ghosts).eq (doing_eq.ghosts).eq c.args.sheet.now.symbols.now c.args.step.now (state_of c.args.system.now c.args.p).part c.args.p c.args.tick
+    (take THREAD_LIMIT threads))
+    c.args.sheet.now.symbols.now (g.W.Write.contents c.args.out.now) (g.W.Write.contents c.put_each.new.out) (g.W.Write.contents c.show_threads.new.out) c.args.p c.args.tick
+    c.then_some.result c.then_some-2.result
+    (then_some (not ((status_eq.ghosts).eq (status_shown c.args.step.now (state_of c.args.system.now c.args.p).part) c.args.self.now.status)) (Status (status_shown c.args.step.now (state_of c.args.system.now c.args.p).part)))
+    (then_some (not (option_eq (number_eq.ghosts).eq (runner_shown c.args.step.now (state_of c.args.system.now c.args.p).part) c.args.self.now.runner)) (Runner (runner_shown c.args.step.now (state_of c.args.system.now c.args.p).part)))
+    c.as_mut_slice-threads.result.now c.args.self.now.threads.items
+    (change_if_other (status_eq.ghosts).eq Status c.then_some.result c.ne.result c.status_of-status.result (status_shown c.args.step.now (state_of c.args.system.now c.args.p).part) c.args.self.now.status
+    c.then_some.ensures c.ne.ensures c.status_of-status.ensures)
+    (change_if_other (option_eq (number_eq.ghosts).eq) Runner c.then_some-2.result c.ne-2.result c.runner_of-runner.result (runner_shown c.args.step.now (state_of c.args.system.now c.args.p).part) c.args.self.now.runner
+    c.then_some-2.ensures c.ne-2.ensures c.runner_of-runner.ensures)
+    (c.in_ok-put_each.ensures.events traced) c.as_mut_slice-threads.ensures.value
+    (subst (λ (symbols : List (ℕ × List ℕ)). Appends (g.W.Write.contents c.put_each.new.out) (g.W.Write.contents c.show_threads.new.out)
+    (threads_events (shown_eq.ghosts).eq (doing_eq.ghosts).eq symbols c.args.step.now (state_of c.args.system.now c.args.p).part c.args.p c.args.tick (take THREAD_LIMIT c.as_mut_slice-threads.result.now)))
+    c.put_each.ensures.symbols written))
+    (c.show_threads.ensures.events (c.put_each.ensures.form ∙ traced))
