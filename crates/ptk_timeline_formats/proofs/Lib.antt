@@ -4,5 +4,6 @@ pub mod Texts
 pub mod Values
 pub mod Written
 pub mod Traces
+pub mod Instants
 pub mod JsonNames
 pub mod Holding

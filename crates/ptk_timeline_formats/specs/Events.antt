@@ -5,9 +5,11 @@ use Rattle.std.specs.List.{concat, enumerate_from}
 use Rattle.std.specs.Str.{is_utf8}
 use Rattle.json.specs.Print.{quoted}
 use Rattle.ptk_words.specs.Names.{ThreadNumber}
+use Rattle.ptk_words.specs.declared.sections.Arrival.{Arrival}
 use Rattle.ptk_words.specs.declared.threads.Wait.{Wait}
 use Rattle.ptk_words.specs.declared.threads.Wait.TheVariants.{InputWait, SleepWait, JoinWait, MutexWait, ConditionWait, RelockWait}
 use Rattle.ptk_words_model.specs.State.{Part}
+use Rattle.ptk_config.specs.Sections.{Section}
 use Rattle.ptk_symbols.specs.Tables.{nearest}
 use Rattle.ptk_main_runs.specs.PartStatus.{PartStatus}
 use Rattle.ptk_main_runs.specs.Shown.{shown_status}
@@ -299,6 +301,29 @@ abbrev pub arrival_text : ℕ → ℕ → ℕ → ℕ → ℕ → List ℕ
 arrival_text p from to tick bytes =
     if nat_le from tick && nat_lt tick to then instant_text p tick (codes "input") (codes "bytes") bytes else []
 
+-- a byte that comes at a tick, before input by its ticks: one more of the first of these, or alone (own)
+abbrev pub one_more_at : ℕ → List (ℕ × ℕ) → List (ℕ × ℕ)
+one_more_at tick [] = (tick, 1) ∷ []
+one_more_at tick (first ∷ rest) = if first.0 == tick then ((tick, first.1 + 1) ∷ rest) else ((tick, 1) ∷ first ∷ rest)
+
+-- the ticks at which input comes, in its order, each with how many bytes come one after another at it (own)
+abbrev pub input_ticks : List Arrival → List (ℕ × ℕ)
+input_ticks [] = []
+input_ticks (byte ∷ rest) = one_more_at byte.tick (input_ticks rest)
+
+-- the instant of a tick with how many bytes of input come at it (own)
+abbrev pub ticks_input : ℕ → ℕ → ℕ → ℕ × ℕ → List ℕ
+ticks_input p from to arrivals = arrival_text p from to arrivals.0 arrivals.1
+
+-- the instants of input: one for each tick at which some comes (own)
+unfoldable pub input_text : ℕ → ℕ → ℕ → List Arrival → List ℕ
+input_text p from to input = flat_map (ticks_input p from to) (input_ticks input)
+
+-- of the input behind a byte, none comes next at this tick (own)
+abbrev pub comes_no_more : ℕ → List Arrival → Bool
+comes_no_more tick [] = true
+comes_no_more tick (next ∷ rest) = not (next.tick == tick)
+
 -- what is before the name of a partition's process: the beginning of the list of events, or what ends the event before (Trace Event Format, "JSON Object Format")
 abbrev pub before_process : ℕ → List ℕ
 before_process p = if nat_lt 0 p then codes ",\n" else codes "{\"displayTimeUnit\":\"ns\",\"traceEvents\":[\n"
@@ -307,3 +332,12 @@ before_process p = if nat_lt 0 p then codes ",\n" else codes "{\"displayTimeUnit
 abbrev pub process_name : ℕ → List ℕ → List ℕ
 process_name p name =
     concat (before_process p ∷ codes "{\"ph\":\"M\",\"pid\":" ∷ decimal (p + 1) ∷ codes ",\"name\":\"process_name\",\"args\":{\"name\":" ∷ name ∷ codes "}}" ∷ [])
+
+-- the names of a partition's process and of the track of its windows, and the instants of its input (own)
+unfoldable pub section_text : ℕ → ℕ → ℕ × Section → List ℕ
+section_text from to section =
+    process_name section.0 (quoted section.1.name) ++ track_name (windows_track section.0) (codes "\"windows\"") ++ input_text section.0 from to section.1.input
+
+-- what is before the events: of each partition, in their order, its names and its input from a tick on and before another (Trace Event Format, "JSON Object Format")
+unfoldable pub events_head : List Section → ℕ → ℕ → List ℕ
+events_head sections from to = flat_map (section_text from to) (enumerate_from 0 sections)

@@ -1,9 +1,9 @@
 //! The Trace Event Format.
 
-ghost use Rattle.std.specs.Prelude.{◌≡◌, None, IfOk, OnOk, option_map, string_bytes};
+ghost use Rattle.std.specs.Prelude.{◌≡◌, ◌+◌, ◌<◌, None, IfOk, OnOk, drop, length, option_map, string_bytes};
 ghost use Rattle.std.specs.Io.KnownBytes.{Appends};
 ghost use Rattle.json.specs.Print.{quoted};
-ghost use Rattle.ptk_timeline_formats.specs.Events.{arrival_text, before_process, change_events, condition_text, doing_end, doing_text, flow_end, flow_head, flow_number, flow_text, halt_text, head_text, instant_text, mutex_text, name_text, number_text, only_number, priority_text, process_name, routine_in, shown_numbers, shown_text, slice_text, start_text, status_text, text_in, thread_track, ticks_text, track_name, until_text, wait_text, window_slice, window_text, windows_track};
+ghost use Rattle.ptk_timeline_formats.specs.Events.{arrival_text, before_process, change_events, comes_no_more, condition_text, doing_end, doing_text, events_head, flow_end, flow_head, flow_number, flow_text, halt_text, head_text, input_text, instant_text, mutex_text, name_text, number_text, only_number, priority_text, process_name, routine_in, section_text, shown_numbers, shown_text, slice_text, start_text, status_text, text_in, thread_track, ticks_text, track_name, until_text, wait_text, window_slice, window_text, windows_track};
 
 use crate::board::PARTS;
 use crate::change::{Change, ShownSince};
@@ -269,7 +269,9 @@ pub(crate) fn put_events_head<W: Write>(
     from: u64,
     to: u64,
     out: &mut W,
-) -> Result<(), PutFault> {
+) -> Result<(), PutFault>
+    ensures { OnOk result (Appends (W.contents out.old) (W.contents out.new) (events_head config.now.sections from to)) }
+{
     for (place, section) in config.sections().iter().enumerate() {
         let p = PartId::new((place % PARTS) as u8);
         put_section(alloc, p, section, from, to, out)?;
@@ -286,7 +288,9 @@ fn put_section<W: Write>(
     from: u64,
     to: u64,
     out: &mut W,
-) -> Result<(), PutFault> {
+) -> Result<(), PutFault>
+    ensures { OnOk result (Appends (W.contents out.old) (W.contents out.new) (section_text from to (p, section.now))) }
+{
     let name = quoted(alloc, section.name())?;
     put_process_name(p, name.as_str(), out)?;
     put_track_name(Track::windows(p), "\"windows\"", out)?;
@@ -334,21 +338,32 @@ fn put_input<W: Write>(
     from: u64,
     to: u64,
     out: &mut W,
-) -> io::Result<()> {
+) -> io::Result<()>
+    ensures { OnOk result (Appends (W.contents out.old) (W.contents out.new) (input_text p from to input.now)) }
+{
     let mut bytes = 0u64;
     for (place, arrival) in input.iter().enumerate() {
         let tick = arrival.tick.ticks();
-        bytes = bytes.saturating_add(1);
-        let is_last = match input.get(place + 1) {
-            Some(next) => next.tick.ticks() != tick,
-            None => true,
-        };
-        if is_last {
+        bytes += 1;
+        if is_last_at(input, place, tick) {
             put_arrival(p, tick, bytes, from, to, out)?;
             bytes = 0;
         }
     }
     Ok(())
+}
+
+/// Whether the input behind the byte at a place does not go on with one that comes at this tick.
+#[tactic(auto, using(crate::proofs::Instants::comes_next, crate::proofs::Instants::none_comes))]
+fn is_last_at(input: &[Arrival], place: usize, tick: u64) -> bool
+    requires { place < length input.now }
+    ensures { result ≡ comes_no_more tick (drop (place + 1) input.now) }
+{
+    let behind = place + 1;
+    if behind < input.len() {
+        return input[behind].tick.ticks() != tick;
+    }
+    true
 }
 
 /// Writes an instant of this many bytes of input that come at a tick, if it is one from a tick on and before another.

@@ -19,8 +19,9 @@
 //!   is which changes a view writes: of what is shown, all that is not as before (`events` of `PartView::show`, `go_on`
 //!   and `settle`: `part_events`), at a decision what is lost too (`decide`: `decision_events`), the names of the threads
 //!   at the first tick and their slices at the last (`put_all`: `first_events`; `put_rest`: `last_events`). So are who
-//!   has ended a thread's wait (`waker_of`, `put_waking`), and what the begin and the end of a window write in both
-//!   forms (`open_window`, `close_window`). What is before the events is tested.
+//!   has ended a thread's wait (`waker_of`, `put_waking`), what the begin and the end of a window write in both forms
+//!   (`open_window`, `close_window`), and what is before the events: the names of the partitions, and the input
+//!   (`Sheet::put_head`: `events_head`).
 //!
 //! GTKWave opens the first (IEEE 1364-2005, section 18), Perfetto and chrome://tracing the second. Both go from change
 //! to change and keep of each thread what was shown of it last, so memory does not grow with the run. Below are the

@@ -34,7 +34,7 @@ ghost use Rattle.std.specs.Prelude.{◌≡◌, ◌<◌, ◌≤◌, false, OnOk};
 ghost use Rattle.std.specs.Io.KnownBytes.{Appends};
 ghost use Rattle.ptk_words.specs.declared.TheConstants.{LAST_TICK};
 ghost use Rattle.ptk_timeline_formats.specs.declared.sheet.Form.TheVariants.{Vcd, Events};
-ghost use Rattle.ptk_timeline_formats.specs.Events.{change_events, changes_events, events_if};
+ghost use Rattle.ptk_timeline_formats.specs.Events.{change_events, changes_events, events_head, events_if};
 ghost use Rattle.ptk_timeline_formats.specs.Signals.{change_lines, changes_lines, is_signal, lines_if, text_behind_first, tick_behind, tick_behind_all, tick_behind_if, tick_line};
 
 impl Form {
@@ -94,7 +94,9 @@ impl<'a, 's> Sheet<'a, 's> {
     }
 
     /// Writes what is before the first values.
-    pub(crate) fn put_head<W: Write>(&self, config: &Config, out: &mut W) -> Result<(), PutFault> {
+    pub(crate) fn put_head<W: Write>(&self, config: &Config, out: &mut W) -> Result<(), PutFault>
+        ensures events { self.now.form ≡ Events → OnOk result (Appends (W.contents out.old) (W.contents out.new) (events_head config.now.sections self.now.at self.now.to)) }
+    {
         match self.form {
             Form::Vcd => Ok(put_vcd_head(config, self.at, out)?),
             Form::Events => put_events_head(self.alloc, config, self.at, self.to, out),
