@@ -11,7 +11,7 @@ use Rattle.ptk_timeline_segments.specs.declared.marks.Brought.{Brought}
 use Rattle.ptk_timeline_segments.specs.declared.marks.Marked.{Marked}
 use Rattle.ptk_timeline_segments.specs.declared.marks.Marks.{Marks}
 use Rattle.ptk_timeline_segments.specs.declared.scale.Scale.{Scale}
-use Rattle.ptk_timeline_segments.specs.Columns.{start_of}
+use Rattle.ptk_timeline_segments.specs.Columns.{columns_of, start_of}
 use Rattle.ptk_timeline_segments.specs.Marking.{both, brought_by, marks_at, marks_of, marks_there, no_marks}
 use Rattle.ptk_timeline_segments.specs.Marked.{AreMarked, BeginsAs, IsAsOf, IsMarkedBy, IsMarkedTo, brought_to}
 use Rattle.ptk_timeline_segments.specs.Recordings.{TellsMarks}
@@ -232,26 +232,26 @@ marked_on states tick due is_step old new one from later stays step is on = reco
 -- ---- in the end
 
 -- at the end each column has its marks
-pub marks_told : (states : ℕ → State) (scale : Scale) (lane : Lane) → scale.each ≡ 1 → lane.scale ≡ scale → lane.marked.scale ≡ lane.scale → lane.due ≡ scale.to
-    → IsMarkedTo states lane.due lane.marked → TellsMarks states scale lane
-marks_told states scale lane one same scaled done is = record { columns = columns }
+pub marks_told : (states : ℕ → State) (scale : Scale) (lane : Lane) → lane.scale ≡ scale → lane.marked.scale ≡ lane.scale → lane.due ≡ scale.to
+    → (lane.scale.each ≡ 1 → IsMarkedTo states lane.due lane.marked) → TellsMarks states scale lane
+marks_told states scale lane same scaled done is = record { count = lane.marked.count ∙ ap columns_of own; columns = columns }
   where
     own : lane.marked.scale ≡ scale
     own = scaled ∙ same
 
-    covers : min (scale.from + length lane.marked.columns.items * 1) scale.to ≡ scale.to
-    covers =
+    covers : scale.each ≡ 1 → min (scale.from + length lane.marked.columns.items * 1) scale.to ≡ scale.to
+    covers one =
         ap (λ (e : ℕ). min (scale.from + length lane.marked.columns.items * e) scale.to) (sym one)
         ∙ subst (λ (s : Scale). start_of s (length lane.marked.columns.items) ≡ s.to) own lane.marked.covers
 
-    within : (column : ℕ) → scale.from + column < scale.to → column < length lane.marked.columns.items
-    within column some = omega (arith, covers, some)
+    within : (column : ℕ) → scale.each ≡ 1 → scale.from + column < scale.to → column < length lane.marked.columns.items
+    within column one some = omega (arith, covers one, some)
 
-    columns : (column : ℕ) (default : Marks) → scale.from + column < scale.to
+    columns : scale.each ≡ 1 → (column : ℕ) (default : Marks) → scale.from + column < scale.to
         → get_or lane.marked.columns.items column default ≡ marks_at states scale.from (scale.to - scale.from) (scale.from + column)
-    columns column default some =
+    columns one column default some =
         let inside : lane.marked.scale.from + column < lane.marked.scale.to = subst (λ (s : Scale). s.from + column < s.to) (sym own) some in
-        is.columns column default (within column some) inside
+        (is (ap (λ (s : Scale). s.each) same ∙ one)).columns column default (within column one some) inside
         ∙ (ap (λ (s : Scale). marks_at states s.from (lane.due - s.from) (s.from + column)) own
         ∙ ap (λ (d : ℕ). marks_at states scale.from (d - scale.from) (scale.from + column)) done)
 

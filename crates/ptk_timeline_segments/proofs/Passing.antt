@@ -123,6 +123,7 @@ lane_passes world p from old new part is wide low before within steady scale mar
     from = omega (arith, from_same, is.from, before, later);
     to = omega (arith, to_same, due.within);
     few = omega (arith, count, is.few);
+    threads = λ k. count ∙ is.threads k;
     scaled = ap (λ (m : Marked). m.scale) marked ∙ (is.scaled ∙ sym scale);
     marks = λ one. let each : new.scale.each ≡ old.scale.each = ap (λ (s : Scale). s.each) scale in absurd (omega (arith, one, each, wide));
     rows = rows;

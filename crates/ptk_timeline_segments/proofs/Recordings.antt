@@ -3,7 +3,8 @@ use Rattle.std.proofs.Common.{◌≡◌, ℕ, ◌+◌, ◌<◌, ◌≤◌, List,
 use Rattle.std.proofs.Math.Nat.{mul-le-mul_right}
 use Rattle.std.proofs.lemmas.Bool.{cases_lt}
 use Rattle.std.proofs.lemmas.List.{take-append-le, take_all}
-use Rattle.ptk_words_windows.specs.Windows.{own_ticks}
+use Rattle.ptk_words_windows.specs.Windows.{OwnTicks, own_ticks}
+use Rattle.ptk_words_model.specs.State.{State}
 use Rattle.ptk_system.specs.Going.{GoesOnAsIs}
 use Rattle.ptk_system.specs.World.{World, at_tick}
 use Rattle.ptk_timeline_segments.specs.declared.lane.Lane.{Lane}
@@ -12,10 +13,10 @@ use Rattle.ptk_timeline_segments.specs.declared.recording.Recording.{Recording}
 use Rattle.ptk_timeline_segments.specs.declared.row.LaneRow.{LaneRow}
 use Rattle.ptk_timeline_segments.specs.declared.scale.Scale.{Scale}
 use Rattle.ptk_timeline_segments.specs.Cells.{IsCellOf}
-use Rattle.ptk_timeline_segments.specs.Columns.{start_of}
+use Rattle.ptk_timeline_segments.specs.Columns.{columns_of, start_of}
 use Rattle.ptk_timeline_segments.specs.Histories.{history, look_at}
 use Rattle.ptk_timeline_segments.specs.Lanes.{IsLaneOf, IsPassed, IsShown, IsThreadsRow}
-use Rattle.ptk_timeline_segments.specs.Recordings.{AreLanesOf, TellsLooks, TellsMarks, TellsOf}
+use Rattle.ptk_timeline_segments.specs.Recordings.{AreLanesOf, TellsLane, TellsLooks, TellsOf}
 use Rattle.ptk_timeline_segments.specs.Rows.{IsRowOf}
 use Rattle.ptk_timeline_segments.proofs.Marking.{marks_told}
 
@@ -147,17 +148,30 @@ filled_all row column counted some = by (cases_lt column row.filled)
 
 row_tells : (look : ℕ → Look) (scale : Scale) (row : LaneRow) → row.scale ≡ scale → row.counted ≡ scale.to → IsRowOf look row → TellsLooks look scale row
 row_tells look scale row same counted is = record {
+  count = row.count ∙ ap columns_of same;
   columns = λ column default some.
       subst (λ (s : Scale). IsCellOf look (start_of s column) (start_of s (column + 1)) (get_or row.cells.items column default)) same
       (is.cells column default (filled_all row column (counted ∙ sym (ap (λ (s : Scale). s.to) same)) (subst (λ (s : Scale). start_of s column < s.to) (sym same) some)));
 }
 
+-- a lane that shows its partition up to the end
+lane_tells : (ticks : OwnTicks) (states : ℕ → State) (scale : Scale) (lane : Lane) → lane.scale ≡ scale → lane.due ≡ scale.to → IsLaneOf ticks states lane → TellsLane ticks states scale lane
+lane_tells ticks states scale lane same done is = record {
+  threads = is.threads;
+  rows = λ place default lt. row place (get_or lane.rows.items place default) (is.rows place default lt);
+  marks = marks_told states scale lane same is.scaled done is.marks;
+}
+  where
+    row : (place : ℕ) (row : LaneRow) → IsThreadsRow ticks states lane (place + 1) row → TellsLooks (look_at ticks states scale.from (place + 1)) scale row
+    row place it told =
+        row_tells (look_at ticks states scale.from (place + 1)) scale it (told.scale ∙ same) (told.counted ∙ done)
+        (subst (λ (s : Scale). IsRowOf (look_at ticks states s.from (place + 1)) it) same told.right)
+
 pub tells_of : (world : World) (recording : Recording) → AreLanesOf world recording.scale recording.scale.to recording.lanes.items → TellsOf world recording
 tells_of world recording are = record {
   parts = are.count;
-  rows = λ p place lane default part lt.
-      row p place lane default part (are.tells p lane part) ((are.tells p lane part).rows place default lt);
-  marks = λ one p lane part. marks one p lane part (are.tells p lane part);
+  lanes = λ p default part.
+      lane_tells (own_ticks world.config.plan p) (history world p) recording.scale (get_or recording.lanes.items p default) (are.scales p default part) (done p default part (are.tells p default part)) (are.tells p default part);
 }
   where
     done : (p : ℕ) (lane : Lane) → p < length recording.lanes.items → IsLaneOf (own_ticks world.config.plan p) (history world p) (get_or recording.lanes.items p lane)
@@ -165,21 +179,3 @@ tells_of world recording are = record {
     done p lane part is =
         let to : (get_or recording.lanes.items p lane).scale.to ≡ recording.scale.to = ap (λ (s : Scale). s.to) (are.scales p lane part) in
         omega (arith, are.due p lane part, is.to, to)
-
-    marks : recording.scale.each ≡ 1 → (p : ℕ) (lane : Lane) → p < length recording.lanes.items → IsLaneOf (own_ticks world.config.plan p) (history world p) (get_or recording.lanes.items p lane)
-        → TellsMarks (history world p) recording.scale (get_or recording.lanes.items p lane)
-    marks one p lane part is =
-        let scale : (get_or recording.lanes.items p lane).scale ≡ recording.scale = are.scales p lane part in
-        marks_told (history world p) recording.scale (get_or recording.lanes.items p lane) one scale is.scaled (done p lane part is)
-        (is.marks (ap (λ (s : Scale). s.each) scale ∙ one))
-
-    row : (p place : ℕ) (lane : Lane) (default : LaneRow) → p < length recording.lanes.items → IsLaneOf (own_ticks world.config.plan p) (history world p) (get_or recording.lanes.items p lane)
-        → IsThreadsRow (own_ticks world.config.plan p) (history world p) (get_or recording.lanes.items p lane) (place + 1) (get_or (get_or recording.lanes.items p lane).rows.items place default)
-        → TellsLooks (look_at (own_ticks world.config.plan p) (history world p) recording.scale.from (place + 1)) recording.scale (get_or (get_or recording.lanes.items p lane).rows.items place default)
-    row p place lane default part is told =
-        let scale : (get_or recording.lanes.items p lane).scale ≡ recording.scale = are.scales p lane part in
-        let to : (get_or recording.lanes.items p lane).scale.to ≡ recording.scale.to = ap (λ (s : Scale). s.to) scale in
-        let done : (get_or recording.lanes.items p lane).due ≡ recording.scale.to = omega (arith, are.due p lane part, is.to, to) in
-        row_tells (look_at (own_ticks world.config.plan p) (history world p) recording.scale.from (place + 1)) recording.scale (get_or (get_or recording.lanes.items p lane).rows.items place default)
-        (told.scale ∙ scale) (told.counted ∙ done)
-        (subst (λ (s : Scale). IsRowOf (look_at (own_ticks world.config.plan p) (history world p) s.from (place + 1)) (get_or (get_or recording.lanes.items p lane).rows.items place default)) scale told.right)

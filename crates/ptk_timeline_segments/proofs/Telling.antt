@@ -2,11 +2,14 @@
 use Rattle.std.proofs.Common.{◌≡◌, ℕ, zero, suc, ◌+◌, ◌-◌, ◌<◌, ◌≤◌, nat_lt, min, max, Bool, true, false, ◌&&◌, if◌then◌else◌, Option, Some, None, unwrap_or, length, get_or, ◌⊎◌, inl, inr, refl, sym, ap, subst, ◌∙◌, arith, add-zero, add-suc}
 use Rattle.std.proofs.lemmas.Bool.{cases_lt, le-ltb}
 use Rattle.std.proofs.Math.Bool.{and-false}
+use Rattle.ptk_words.specs.Ranges.{IsWithinLimits}
 use Rattle.ptk_words.specs.declared.sections.Entry.{Entry}
 use Rattle.ptk_words_windows.specs.Windows.{OwnTicks, own_ticks}
 use Rattle.ptk_words_model.specs.State.{State}
 use Rattle.ptk_words.specs.Faults.{is_active}
-use Rattle.ptk_system.specs.World.{World, but_next, state_of}
+use Rattle.ptk_config.specs.Configuration.{IsConfiguration}
+use Rattle.ptk_system.specs.World.{World, at_tick, but_next, no_section, section_at, state_of}
+use Rattle.ptk_system.proofs.Stays.{well_here}
 use Rattle.ptk_timeline_segments.specs.declared.look.Look.{Look}
 use Rattle.ptk_timeline_segments.specs.declared.lane.Lane.{Lane}
 use Rattle.ptk_timeline_segments.specs.declared.row.LaneRow.{LaneRow}
@@ -133,6 +136,7 @@ lane_on world p tick old new is at here before scale count steps due goes is_ste
     from = omega (arith, from_same, is.from, here, later);
     to = omega (arith, to_same, due.within);
     few = omega (arith, count, is.few);
+    threads = λ k. count ∙ is.threads k;
     scaled = marked.scale ∙ (is.scaled ∙ sym scale);
     marks = λ one. marks (ap (λ (s : Scale). s.each) (sym scale) ∙ one);
     rows = rows;
@@ -220,15 +224,21 @@ lane_on world p tick old new is at here before scale count steps due goes is_ste
                   ∙ ap (λ (s : State). if is_busy (busy_of ticks tick old.steps s) (place + 1) k then stepping (look_in (place + 1) s.part) else look_in (place + 1) s.part) (sym now)));
             }
 
+-- at each tick a partition has as many thread numbers as its section states
+threads_counted : (world : World) (p k : ℕ) → IsConfiguration world.config → p < length world.config.sections → (section_at world.config p).limits.threads ≡ length (history world p k).part.threads
+threads_counted world p k is part = sym (well_here (at_tick k world) p is refl part).threads
+
 -- from the first tick to that of the first change
-pub lane_begins : (world : World) (p : ℕ) (lane : Lane) → world.tick ≡ lane.scale.from → length lane.rows.items ≤ 32 → lane.steps ≡ (state_of world p).account.steps → IsDue world p lane.scale lane.due
+pub lane_begins : (world : World) (p threads : ℕ) (lane : Lane) → IsConfiguration world.config → p < length world.config.sections → threads ≡ (section_at world.config p).limits.threads
+    → world.tick ≡ lane.scale.from → length lane.rows.items ≡ min threads 32 → lane.steps ≡ (state_of world p).account.steps → IsDue world p lane.scale lane.due
     → ((place : ℕ) (default : LaneRow) → place < length lane.rows.items → StartsAs lane.scale (look_in (place + 1) (state_of world p).part) lane.due (get_or lane.rows.items place default))
     → BeginsAs lane.scale (state_of world p) lane.marked
     → IsLaneOf (own_ticks world.config.plan p) (history world p) lane
-lane_begins world p lane at few steps due starts begins = record {
+lane_begins world p threads lane configured part stated at counted steps due starts begins = record {
   from = omega (arith, later, at);
   to = due.within;
-  few = few;
+  few = omega (arith, counted);
+  threads = λ k. whole ∙ threads_counted world p k configured part;
   scaled = begins.scaled;
   marks = λ one.
       marked_begins states (state_of world p) lane.scale lane.due lane.marked (omega (arith, later, at))
@@ -243,6 +253,11 @@ lane_begins world p lane at few steps due starts begins = record {
 
     states : ℕ → State
     states = history world p
+
+    whole : length lane.rows.items ≡ (section_at world.config p).limits.threads
+    whole =
+        let limits : IsWithinLimits (section_at world.config p).limits = configured.ranges.limits p no_section part in
+        omega (arith, counted, stated, limits.threads_to)
 
     later : world.tick ≤ lane.due
     later = let order : lane.scale.from ≤ lane.scale.to = lane.scale.order in due.from (omega (arith, at, order))

@@ -1,9 +1,18 @@
 -- What a column shows of the looks at its ticks.
-use Rattle.std.specs.Prelude.{◌≡◌, ◌≢◌, ℕ, zero, suc, ◌+◌, ◌-◌, ◌<◌, ◌≤◌, ◌==◌, nat_lt, if◌then◌else◌}
+use Rattle.std.specs.Prelude.{◌≡◌, ◌≢◌, ℕ, zero, suc, ◌+◌, ◌-◌, ◌<◌, ◌≤◌, ◌==◌, nat_lt, false, if◌then◌else◌, None}
+use Rattle.ptk_system.specs.declared.activity.Activity.TheVariants.{Free}
 use Rattle.ptk_timeline_segments.specs.declared.look.Look.{Look}
 use Rattle.ptk_timeline_segments.specs.declared.look.TheConstants.{SHADES}
 use Rattle.ptk_timeline_segments.specs.declared.tally.Cell.{Cell}
 use Rattle.ptk_timeline_segments.specs.Shades.{place_in}
+
+-- the look of a number that no thread has
+abbrev pub no_look : Look
+no_look = record { activity = Free; owner = None; raised = None }
+
+-- the cell of a column without ticks
+abbrev pub no_cell : Cell
+no_cell = record { look = no_look; is_mixed = false }
 
 -- at how many of n ticks, the first of them a, the look has the shade of this place (own)
 abbrev pub count_from : (ℕ → Look) → ℕ → ℕ → ℕ → ℕ

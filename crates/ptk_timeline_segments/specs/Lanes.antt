@@ -54,11 +54,12 @@ pub record IsThreadsRow (ticks : OwnTicks) (states : ℕ → State) (lane : Lane
   pub counted : row.counted ≡ lane.due
   pub right : IsRowOf (look_at ticks states lane.scale.from t) row
 
--- the lane shows a partition with these own ticks and states up to the tick at which something of it can change next
+-- the lane shows a partition with these own ticks and states up to the tick at which something of it can change next, in a row for each thread number
 pub record IsLaneOf (ticks : OwnTicks) (states : ℕ → State) (lane : Lane) : Type 0 where
   pub from : lane.scale.from ≤ lane.due
   pub to : lane.due ≤ lane.scale.to
   pub few : length lane.rows.items ≤ 32
+  pub threads : (k : ℕ) → length lane.rows.items ≡ length (states k).part.threads
   pub scaled : lane.marked.scale ≡ lane.scale
   pub marks : lane.scale.each ≡ 1 → IsMarkedTo states lane.due lane.marked
   pub rows : (place : ℕ) (default : LaneRow) → place < length lane.rows.items → IsThreadsRow ticks states lane (place + 1) (slice_index_or lane.rows.items place default)

@@ -1,6 +1,6 @@
 -- What a recording shows of a run.
 use Rattle.std.specs.Prelude.{◌≡◌, ℕ, ◌+◌, ◌-◌, ◌<◌, ◌≤◌, List, length, slice_index_or}
-use Rattle.ptk_words_windows.specs.Windows.{own_ticks}
+use Rattle.ptk_words_windows.specs.Windows.{OwnTicks, own_ticks}
 use Rattle.ptk_words_model.specs.State.{State}
 use Rattle.ptk_system.specs.declared.status.PartStatus.{PartStatus}
 use Rattle.ptk_system.specs.Told.{status_in}
@@ -13,7 +13,7 @@ use Rattle.ptk_timeline_segments.specs.declared.row.LaneRow.{LaneRow}
 use Rattle.ptk_timeline_segments.specs.declared.scale.Scale.{Scale}
 use Rattle.ptk_timeline_segments.specs.declared.tally.Cell.{Cell}
 use Rattle.ptk_timeline_segments.specs.Cells.{IsCellOf}
-use Rattle.ptk_timeline_segments.specs.Columns.{start_of}
+use Rattle.ptk_timeline_segments.specs.Columns.{columns_of, start_of}
 use Rattle.ptk_timeline_segments.specs.Histories.{history, look_at}
 use Rattle.ptk_timeline_segments.specs.Lanes.{IsLaneOf}
 use Rattle.ptk_timeline_segments.specs.Marking.{marks_at}
@@ -25,24 +25,30 @@ pub record AreLanesOf (world : World) (scale : Scale) (tick : ℕ) (lanes : List
   pub due : (p : ℕ) (default : Lane) → p < length lanes → tick ≤ (slice_index_or lanes p default).due
   pub tells : (p : ℕ) (default : Lane) → p < length lanes → IsLaneOf (own_ticks world.config.plan p) (history world p) (slice_index_or lanes p default)
 
--- each column of the row has the look of a thread at the column's ticks: that of one tick this tick's, that of many the one that held longest (own)
+-- the row has each column, with the look of a thread at the column's ticks: that of one tick this tick's, that of many the one that held longest (own)
 pub record TellsLooks (look : ℕ → Look) (scale : Scale) (row : LaneRow) : Type 0 where
+  pub count : length row.cells.items ≡ columns_of scale
   pub columns : (column : ℕ) (default : Cell) → start_of scale column < scale.to
       → IsCellOf look (start_of scale column) (start_of scale (column + 1)) (slice_index_or row.cells.items column default)
 
--- each column of a lane, which is a tick, has the marks that the decisions of the picture make there
+-- a lane has each column, and where that is a tick, the marks that the decisions of the picture make there
 pub record TellsMarks (states : ℕ → State) (scale : Scale) (lane : Lane) : Type 0 where
-  pub columns : (column : ℕ) (default : Marks) → scale.from + column < scale.to
+  pub count : length lane.marked.columns.items ≡ columns_of scale
+  pub columns : scale.each ≡ 1 → (column : ℕ) (default : Marks) → scale.from + column < scale.to
       → slice_index_or lane.marked.columns.items column default ≡ marks_at states scale.from (scale.to - scale.from) (scale.from + column)
 
--- each row of each lane shows its thread, by partition and thread number, and in columns of one tick each lane shows what came
+-- a lane has a row for each thread number of a partition with these own ticks and states, each row shows its thread, and the marks show what came
+pub record TellsLane (ticks : OwnTicks) (states : ℕ → State) (scale : Scale) (lane : Lane) : Type 0 where
+  pub threads : (k : ℕ) → length lane.rows.items ≡ length (states k).part.threads
+  pub rows : (place : ℕ) (default : LaneRow) → place < length lane.rows.items
+      → TellsLooks (look_at ticks states scale.from (place + 1)) scale (slice_index_or lane.rows.items place default)
+  pub marks : TellsMarks states scale lane
+
+-- each lane shows its partition
 pub record TellsOf (world : World) (recording : Recording) : Type 0 where
   pub parts : length recording.lanes.items ≡ length world.config.sections
-  pub rows : (p place : ℕ) (lane : Lane) (default : LaneRow) → p < length recording.lanes.items
-      → place < length (slice_index_or recording.lanes.items p lane).rows.items
-      → TellsLooks (look_at (own_ticks world.config.plan p) (history world p) recording.scale.from (place + 1)) recording.scale
-      (slice_index_or (slice_index_or recording.lanes.items p lane).rows.items place default)
-  pub marks : recording.scale.each ≡ 1 → (p : ℕ) (lane : Lane) → p < length recording.lanes.items → TellsMarks (history world p) recording.scale (slice_index_or recording.lanes.items p lane)
+  pub lanes : (p : ℕ) (default : Lane) → p < length recording.lanes.items
+      → TellsLane (own_ticks world.config.plan p) (history world p) recording.scale (slice_index_or recording.lanes.items p default)
 
 -- what each partition of a system is, in their order
 pub record AreStatusesOf (world : World) (statuses : List PartStatus) : Type 0 where

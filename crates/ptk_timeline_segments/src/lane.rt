@@ -1,9 +1,9 @@
 //! A partition's rows, and the marks of its columns.
 
-ghost use Rattle.std.specs.Prelude.{◌≡◌, ℕ, ◌+◌, ◌<◌, ◌≤◌, IfOk, length, slice_index_or};
+ghost use Rattle.std.specs.Prelude.{◌≡◌, ℕ, ◌+◌, ◌<◌, ◌≤◌, IfOk, length, min, slice_index_or};
 ghost use Rattle.ptk_words.specs.declared.TheConstants.{LAST_TICK};
 ghost use Rattle.ptk_words_windows.specs.Windows.{own_ticks};
-ghost use Rattle.ptk_system.specs.World.{state_of};
+ghost use Rattle.ptk_system.specs.World.{section_at, state_of};
 ghost use Rattle.ptk_timeline_segments.specs.declared.row.LaneRow.{LaneRow as AnyRow};
 ghost use Rattle.ptk_timeline_segments.specs.Histories.{history, look_in};
 ghost use Rattle.ptk_timeline_segments.specs.Lanes.{GoesOn, IsDue, IsLaneOf, IsPassed, IsShown, StartsAs};
@@ -32,21 +32,22 @@ pub struct Lane {
 }
 
 impl Lane {
-    /// The lane of a partition with this many threads from the system's tick on, with room for all columns. An error
-    /// where memory ran out. No other call takes memory.
+    /// The lane of a partition from the system's tick on, with a row for each thread number and room for all columns.
+    /// An error where memory ran out. No other call takes memory.
     pub(crate) fn new(
         alloc: Global,
         scale: Scale,
         system: &System<'_>,
         p: PartId,
-        threads: u32,
     ) -> Result<Lane, AllocError>
         requires partition { p < length system.now.config.sections }
         requires begun { system.now.tick ≡ scale.from }
         ensures scale { IfOk result (λ lane. lane.scale ≡ scale) }
         ensures right { IfOk result (λ lane. IsLaneOf (own_ticks system.now.config.plan p) (history system.now p) lane) }
     {
+        system.states_are_alone();
         let due = due(system, p, scale);
+        let threads = threads_of(system, p);
         Ok(Lane {
             scale,
             rows: first_rows(alloc, scale, system, p, threads, due)?,
@@ -153,6 +154,14 @@ fn due(system: &System<'_>, p: PartId, scale: Scale) -> u64
     system.stays_until(p, Tick::new(scale.to())).ticks()
 }
 
+/// How many thread numbers a partition has.
+fn threads_of(system: &System<'_>, p: PartId) -> u32
+    requires { p < length system.now.config.sections }
+    ensures { result ≡ (section_at system.now.config p).limits.threads }
+{
+    system.config().sections()[p.index()].limits().threads
+}
+
 /// The rows of a partition's threads, which begin as the system shows them, up to a tick.
 fn first_rows(
     alloc: Global,
@@ -163,7 +172,7 @@ fn first_rows(
     until: u64,
 ) -> Result<Vec<LaneRow>, AllocError>
     requires { p < length system.now.config.sections }
-    ensures few { IfOk result (λ rows. length rows.items ≤ 32) }
+    ensures count { IfOk result (λ rows. length rows.items ≡ min threads 32) }
     ensures rows { IfOk result (λ rows. (place : ℕ) (default : AnyRow) → place < length rows.items
         → StartsAs scale (look_in (place + 1) (state_of system.now p).part) until (slice_index_or rows.items place default)) }
 {

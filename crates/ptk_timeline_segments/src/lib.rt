@@ -3,9 +3,13 @@
 //! What each thread of a run was, from which tick to which, by columns of a picture; the bars of a row, the marks of a
 //! column, and a partition's windows one after the other.
 //!
-//! - `Recording::of_run` is a run to the scale's end (`run`), and each column of each row has the look of its thread at
-//!   its ticks, by the states of its partition (`tells`: `TellsOf`, `look_at`): running, ready, blocked on what and
-//!   whose owner, ended, halted or no thread, with its effective priority where that is raised.
+//! - `Recording::of_run` is a run to the scale's end (`run`). It has a lane for each partition, in it a row for each
+//!   thread number that the partition has, and in that each column of the scale (`tells`: `TellsOf`, `TellsLane`).
+//! - Each column of each row has the look of its thread at its ticks, by the states of its partition (`look_at`):
+//!   running, ready, blocked on what and whose owner, ended, halted or no thread, with its effective priority where
+//!   that is raised.
+//! - A scale has the columns that its ticks need (`columns_of`), of as few ticks each as fit them into the number that
+//!   is asked for (`Scale::new`, `each`: `ticks_each`).
 //! - A step's ticks are its thread's, up to the next decision or its window's end.
 //! - A column of many ticks has the last look of the shade that held at most of them, the first of these at a draw, and
 //!   shows whether another held too (`IsCellOf`); over ticks that a picture passes by `System::compute_to` no look

@@ -4,6 +4,7 @@ ghost use Rattle.std.specs.Prelude.{◌≡◌, ◌<◌, ◌↔◌, IsTrue, lengt
 ghost use Rattle.ptk_timeline_segments.specs.declared.look.TheConstants.{SHADES};
 ghost use Rattle.ptk_words_model.specs.Priority.{thread_at};
 ghost use Rattle.ptk_system.specs.World.{state_of};
+ghost use Rattle.ptk_timeline_segments.specs.Cells.{no_look};
 ghost use Rattle.ptk_timeline_segments.specs.Histories.{look_in, owner_for, raised_of, stepping};
 ghost use Rattle.ptk_timeline_segments.specs.Shades.{place_in, place_of, shade_of, shade_of_wait};
 
@@ -76,7 +77,9 @@ pub struct Look {
 
 impl Look {
     /// The look of a number that no thread has.
-    pub(crate) fn free() -> Look {
+    pub(crate) fn free() -> Look
+        ensures { result ≡ no_look }
+    {
         Look {
             activity: Activity::Free,
             owner: None,

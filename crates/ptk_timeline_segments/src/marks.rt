@@ -3,7 +3,7 @@
 ghost use Rattle.std.specs.Prelude.{◌≡◌, ℕ, ◌<◌, ◌≤◌, ◌&&◌, ◌||◌, IfOk, length};
 ghost use Rattle.ptk_words.specs.declared.TheConstants.{LAST_TICK};
 ghost use Rattle.ptk_system.specs.World.{state_of};
-ghost use Rattle.ptk_timeline_segments.specs.Columns.{start_of};
+ghost use Rattle.ptk_timeline_segments.specs.Columns.{columns_of, start_of};
 ghost use Rattle.ptk_timeline_segments.specs.Marking.{both, marks_there, no_marks};
 
 use crate::scale::Scale;
@@ -96,6 +96,7 @@ pub(crate) struct Marked {
     lost: u64,
     dropped: u64,
     was_active: bool,
+    ghost count: { length columns.items ≡ columns_of scale },
     ghost covers: { start_of scale (length columns.items) ≡ scale.to },
 }
 

@@ -159,11 +159,7 @@ fn first_lanes(alloc: Global, system: &System<'_>, scale: Scale) -> Result<Vec<L
 {
     let mut lanes = Vec::new(alloc);
     for i in 0..system.parts() {
-        let threads = match system.config().sections().get(i) {
-            Some(section) => section.limits().threads,
-            None => 0,
-        };
-        lanes.push(Lane::new(alloc, scale, system, PartId::new(i as u8), threads)?)?;
+        lanes.push(Lane::new(alloc, scale, system, PartId::new(i as u8))?)?;
     }
     Ok(lanes)
 }

@@ -2,7 +2,7 @@
 
 ghost use Rattle.std.specs.Prelude.{◌≡◌, ℕ, ◌+◌, ◌<◌, ◌≤◌, IfOk, length, max, min};
 ghost use Rattle.ptk_timeline_segments.specs.declared.look.Look.{Look as AnyLook};
-ghost use Rattle.ptk_timeline_segments.specs.Columns.{start_of};
+ghost use Rattle.ptk_timeline_segments.specs.Columns.{columns_of, start_of};
 
 use crate::look::Look;
 use crate::scale::Scale;
@@ -18,6 +18,7 @@ pub struct LaneRow {
     filled: usize,
     tally: Tally,
     counted: u64,
+    ghost count: { length cells.items ≡ columns_of scale },
     ghost covers: { start_of scale (length cells.items) ≡ scale.to },
     ghost within: { counted ≤ scale.to },
     ghost begun: { start_of scale filled ≤ counted },

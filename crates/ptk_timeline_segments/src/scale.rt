@@ -17,7 +17,7 @@ pub struct Scale {
 }
 
 impl Scale {
-    ghost use Rattle.ptk_timeline_segments.specs.Columns.{start_of};
+    ghost use Rattle.ptk_timeline_segments.specs.Columns.{columns_of, start_of, ticks_each};
 
     /// The ticks from `from` on and before `to`, none where `to` is not after `from`, in at most this many columns,
     /// with as few ticks in each as that allows: one where there are no more ticks than columns.
@@ -25,14 +25,20 @@ impl Scale {
         requires { to ≤ LAST_TICK }
         ensures from { result.from ≡ min from to }
         ensures to { result.to ≡ to }
-        ensures single { to ≤ from + max most 1 → result.each ≡ 1 }
+        ensures each { result.each ≡ ticks_each (result.to - result.from) most }
     {
         let to = to.ticks();
         let from = from.ticks().min(to);
-        let ticks = to - from;
-        let most = u64::from(most).max(1);
-        let each = (ticks / most + u64::from(ticks % most != 0)).max(1);
+        let each = Scale::ticks_each(to - from, u64::from(most));
         Scale { from, to, each }
+    }
+
+    /// How many ticks a column stands for, where this many are in at most so many columns.
+    fn ticks_each(ticks: u64, most: u64) -> u64
+        ensures value { result ≡ ticks_each ticks most }
+        ensures some { 0 < result }
+    {
+        ticks.div_ceil(most.max(1)).max(1)
     }
 
     /// The first tick.
@@ -61,6 +67,7 @@ impl Scale {
 
     /// How many columns there are: as many as have ticks.
     pub fn columns(self) -> usize
+        ensures count { result ≡ columns_of self }
         ensures all { start_of self result ≡ self.to }
         ensures some { (column : ℕ) → column < result → start_of self column < self.to }
     {

@@ -4,7 +4,7 @@ ghost use Rattle.std.specs.Prelude.{◌≡◌, ℕ, ◌+◌, ◌<◌, ◌≤◌,
 ghost use Rattle.ptk_words.specs.declared.TheConstants.{LAST_TICK};
 ghost use Rattle.ptk_timeline_segments.specs.declared.look.Look.{Look as AnyLook};
 ghost use Rattle.ptk_timeline_segments.specs.declared.look.TheConstants.{SHADES};
-ghost use Rattle.ptk_timeline_segments.specs.Cells.{IsCellOf};
+ghost use Rattle.ptk_timeline_segments.specs.Cells.{IsCellOf, no_cell};
 ghost use Rattle.ptk_timeline_segments.specs.Rows.{HoldsOver};
 ghost use Rattle.ptk_timeline_segments.specs.Tallies.{IsTallyOf};
 
@@ -21,7 +21,9 @@ pub struct Cell {
 
 impl Cell {
     /// The cell of a column without ticks.
-    pub(crate) fn empty() -> Cell {
+    pub(crate) fn empty() -> Cell
+        ensures { result ≡ no_cell }
+    {
         Cell {
             look: Look::free(),
             is_mixed: false,

@@ -14,7 +14,7 @@ returns-clause-tells c =
     tells_of c.args.system.now c.run.new.self
     (subst (λ (s : Scale). AreLanesOf c.args.system.now s s.to c.run.new.self.lanes.items) (sym c.run.ensures.scale)
     (lanes_back c.args.system.now c.run_to.new.self _ c.args.scale.to c.args.scale c.run.new.self.lanes.items c.run_to.ensures (c.run.ensures.right begun c.in_ok-lanes.ensures))) in
-    record { parts = told.parts; rows = told.rows; marks = told.marks }
+    record { parts = told.parts; lanes = told.lanes }
 
 pub returns-clause-ended : goal.returns-clause-ended
 returns-clause-ended c =
