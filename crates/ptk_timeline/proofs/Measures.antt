@@ -13,42 +13,11 @@ use Rattle.ptk_config.specs.Configuration.{Configuration}
 use Rattle.ptk_timeline_segments.specs.declared.lane.Lane.{Lane}
 use Rattle.ptk_timeline_segments.specs.declared.row.LaneRow.{LaneRow}
 use Rattle.ptk_timeline_segments.specs.declared.scale.Scale.{Scale}
-use Rattle.ptk_timeline_segments.specs.Columns.{start_of}
+use Rattle.ptk_timeline_segments.specs.Columns.{columns_of, start_of}
 use Rattle.ptk_timeline.specs.declared.layout.TheConstants.{GAP, HEAD, LEFT, ROW, TOP}
-use Rattle.ptk_timeline.specs.Layout.{are_steps_wide, are_windows_wide, column_place, column_width, columns_of, height_within, is_shown, lane_height, lanes_end, place_of, plot_width, right_of}
+use Rattle.ptk_timeline.specs.Layout.{are_steps_wide, are_windows_wide, column_place, column_width, height_within, is_shown, lane_height, lanes_end, place_of, plot_width, right_of}
 
 -- ---- columns
-
--- a number of columns that hold all ticks is at least one that holds fewer than a column more
-at_least : (ticks each n q : ℕ) → ticks ≤ n * each → q * each < ticks + each → q ≤ n
-at_least ticks each n q low high = by (cases_lt n q)
-  where
-    by : (n < q) ⊎ (q ≤ n) → q ≤ n
-    by (inl lt) =
-        let le : suc n ≤ q = omega arith in
-        let more : suc n * each ≤ q * each = mul-le-mul_right each le in
-        absurd (omega (arith, more, low, high))
-    by (inr le) = le
-
--- columns each of which has a tick
-ticks_before : (scale : Scale) (n : ℕ) → ((k : ℕ) → k < n → start_of scale k < scale.to) → n * scale.each < (scale.to - scale.from) + scale.each
-ticks_before scale zero some = omega arith
-ticks_before scale (suc m) some =
-    let here : min (scale.from + m * scale.each) scale.to < scale.to = some m (omega arith) in
-    omega (arith, here)
-
--- the number of columns that have ticks is the number of columns
-pub columns_counted : (scale : Scale) (n : ℕ) → start_of scale n ≡ scale.to → ((k : ℕ) → k < n → start_of scale k < scale.to) → n ≡ columns_of scale
-columns_counted scale n all some =
-    let low : scale.to - scale.from ≤ n * scale.each = omega (arith, all) in
-    let times : (scale.to - scale.from ≤ columns_of scale * scale.each) × (columns_of scale * scale.each < scale.to - scale.from + scale.each) =
-    div_ceil_times (scale.to - scale.from) scale.each scale.some in
-    let least : columns_of scale ≤ n = at_least (scale.to - scale.from) scale.each n (columns_of scale) low times.1 in
-    let most : n ≤ columns_of scale = at_least (scale.to - scale.from) scale.each (columns_of scale) n times.0 (ticks_before scale n some) in
-    one n (columns_of scale) most least
-  where
-    one : (a b : ℕ) → a ≤ b → b ≤ a → a ≡ b
-    one a b le ge = omega arith
 
 -- there are no more columns than ticks
 pub columns_few : (scale : Scale) (n : ℕ) → ((k : ℕ) → k < n → start_of scale k < scale.to) → n ≤ LAST_TICK

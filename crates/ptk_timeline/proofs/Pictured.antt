@@ -1,5 +1,5 @@
 -- The lanes of a picture, one below the other.
-use Rattle.std.proofs.Common.{◌≡◌, ◌∙◌, ℕ, ◌+◌, ◌-◌, ◌<◌, ◌≤◌, List, [], ◌++◌, Option, Some, None, length, get_or, take, max, min, refl, sym, ap, subst, arith, add-one}
+use Rattle.std.proofs.Common.{◌≡◌, ◌∙◌, ℕ, ◌+◌, ◌-◌, ◌<◌, ◌≤◌, List, [], ◌++◌, Option, Some, None, length, get_or, take, min, refl, sym, ap, subst, arith, add-one}
 use Rattle.std.specs.Prelude.{slice_get}
 use Rattle.std.specs.Io.KnownBytes.{Appends}
 use Rattle.std.proofs.KnownBytes.{Appends-nil, Appends-trans}
@@ -10,6 +10,7 @@ use Rattle.ptk_config.specs.Sections.{Section}
 use Rattle.ptk_timeline_segments.specs.declared.lane.Lane.{Lane}
 use Rattle.ptk_timeline_segments.specs.declared.recording.Recording.{Recording}
 use Rattle.ptk_timeline_segments.specs.declared.scale.Scale.{Scale}
+use Rattle.ptk_timeline_segments.specs.Columns.{ticks_each}
 use Rattle.ptk_timeline_segments.specs.PartStatus.{PartStatus}
 use Rattle.ptk_timeline_segments.specs.Recordings.{AreStatusesOf, TellsOf}
 use Rattle.ptk_timeline_segments.specs.World.{World, at_tick}
@@ -149,14 +150,17 @@ no_further_lane lanes n top past is =
 -- ---- the picture of a run
 
 pub of_recording : (config : Configuration) (world : World) (names : Names) (from to : ℕ) (scale : Scale) (recording : Recording) (text : List ℕ)
-    → from < to → recording.scale ≡ scale → scale.from ≡ min from to → scale.to ≡ to → (to ≤ from + max MOST_COLUMNS 1 → scale.each ≡ 1)
+    → from < to → recording.scale ≡ scale → scale.from ≡ min from to → scale.to ≡ to → scale.each ≡ ticks_each (scale.to - scale.from) MOST_COLUMNS
     → TellsOf world recording → AreStatusesOf (at_tick scale.to world) recording.statuses.items → IsPicture config recording names text → IsPictureOf config world names from to text
-of_recording config world names from to scale recording text order is first end single looks ended drawn = record {
+of_recording config world names from to scale recording text order is first end each looks ended drawn = record {
   recording = recording;
   first = ap (λ (s : Scale). s.from) is ∙ omega (arith, first, order);
   end = ap (λ (s : Scale). s.to) is ∙ end;
-  single = λ few. ap (λ (s : Scale). s.each) is ∙ single (omega (arith, few));
+  each = ap (λ (s : Scale). s.each) is ∙ (each ∙ ap (λ (n : ℕ). ticks_each n MOST_COLUMNS) ticks);
   looks = looks;
   statuses = subst (λ (t : ℕ). AreStatusesOf (at_tick t world) recording.statuses.items) end ended;
   drawn = drawn;
 }
+  where
+    ticks : scale.to - scale.from ≡ to - from
+    ticks = omega (arith, first, end, order)

@@ -1,21 +1,17 @@
 -- Where things are in a picture, in pixels from its upper left corner.
 use Rattle.std.specs.Prelude.{ℕ, ◌+◌, ◌-◌, ◌*◌, ◌/◌, ◌^◌, ◌==◌, nat_le, min, max, Bool, ◌&&◌, ◌||◌, if◌then◌else◌, List, count_by, sum_by}
-use Rattle.std.specs.Int.{div_ceil}
 use Rattle.std.specs.List.{list_any}
 use Rattle.ptk_config.specs.Configuration.{Configuration}
 use Rattle.ptk_timeline_segments.specs.declared.lane.Lane.{Lane}
 use Rattle.ptk_timeline_segments.specs.declared.row.LaneRow.{LaneRow}
 use Rattle.ptk_timeline_segments.specs.declared.scale.Scale.{Scale}
 use Rattle.ptk_timeline_segments.specs.declared.tally.Cell.{Cell}
+use Rattle.ptk_timeline_segments.specs.Columns.{columns_of}
 use Rattle.ptk_timeline_segments.specs.Shades.{shade_of}
 use Rattle.ptk_timeline.specs.declared.layout.TheConstants.{GAP, HEAD, LEFT, LEGEND, ROW, TOP}
 pub use Rattle.ptk_timeline_starts.specs.Starts.{is_thread}
 
 -- ---- from the left
-
--- how many columns there are, the last of which may have fewer ticks (own)
-abbrev pub columns_of : Scale → ℕ
-columns_of scale = div_ceil (scale.to - scale.from) scale.each
 
 -- a column's width: 2 where it is many ticks, else what fits all of them into 1,200 pixels, from 2 to 24 (own)
 abbrev pub column_width : Scale → ℕ

@@ -1,5 +1,5 @@
 -- A picture: its lanes one below the other, and what is around them.
-use Rattle.std.specs.Prelude.{◌≡◌, ◌≤◌, ℕ, zero, suc, ◌+◌, ◌-◌, ◌*◌, List, [], ◌∷◌, ◌++◌, length, take, Option, Some, None, slice_get, codes, decimal, flat_map}
+use Rattle.std.specs.Prelude.{◌≡◌, ℕ, zero, suc, ◌+◌, ◌-◌, ◌*◌, List, [], ◌∷◌, ◌++◌, length, take, Option, Some, None, slice_get, codes, decimal, flat_map}
 use Rattle.std.specs.List.{concat}
 use Rattle.ptk_words.specs.Names.{newline}
 use Rattle.ptk_config.specs.Configuration.{Configuration}
@@ -7,6 +7,7 @@ use Rattle.ptk_config.specs.Sections.{Section}
 use Rattle.ptk_timeline_segments.specs.declared.lane.Lane.{Lane}
 use Rattle.ptk_timeline_segments.specs.declared.recording.Recording.{Recording}
 use Rattle.ptk_timeline_segments.specs.declared.scale.Scale.{Scale}
+use Rattle.ptk_timeline_segments.specs.Columns.{ticks_each}
 use Rattle.ptk_timeline_segments.specs.PartStatus.{PartStatus}
 use Rattle.ptk_timeline_segments.specs.Recordings.{AreStatusesOf, TellsOf}
 use Rattle.ptk_timeline_segments.specs.Windows.{Stage, WindowPlan}
@@ -123,12 +124,12 @@ pub record IsPicture (config : Configuration) (recording : Recording) (names : N
   pub are_lanes : AreLanes config recording names (length config.sections) lanes
   pub whole : text ≡ before_lanes recording.scale (picture_height recording.lanes.items) ++ lanes ++ behind_lanes config recording.scale (lanes_end recording.lanes.items)
 
--- the text is the picture of what a world does from a tick on and before another: of a recording of its run, in columns of a tick where these are few (own)
+-- the text is the picture of what a world does from a tick on and before another: of a recording of its run, in at most MOST_COLUMNS columns of as few ticks as that allows (own)
 pub record IsPictureOf (config : Configuration) (world : World) (names : Names) (from to : ℕ) (text : List ℕ) : Type 0 where
   pub recording : Recording
   pub first : recording.scale.from ≡ from
   pub end : recording.scale.to ≡ to
-  pub single : to ≤ from + MOST_COLUMNS → recording.scale.each ≡ 1
+  pub each : recording.scale.each ≡ ticks_each (to - from) MOST_COLUMNS
   pub looks : TellsOf world recording
   pub statuses : AreStatusesOf (at_tick to world) recording.statuses.items
   pub drawn : IsPicture config recording names text

@@ -3,8 +3,8 @@
 ghost use Rattle.std.specs.Prelude.{◌≡◌, ℕ, ◌+◌, ◌*◌, ◌<◌, ◌≤◌};
 ghost use Rattle.std.specs.List.{list_any};
 ghost use Rattle.ptk_words.specs.declared.TheConstants.{LAST_TICK};
-ghost use Rattle.ptk_timeline_segments.specs.Columns.{start_of};
-ghost use Rattle.ptk_timeline.specs.Layout.{are_steps_wide, are_windows_wide, column_place, column_width, columns_of, is_shown, is_thread, lane_height, lanes_end, picture_height, picture_width, place_of, plot_width, shows_thread};
+ghost use Rattle.ptk_timeline_segments.specs.Columns.{columns_of, start_of};
+ghost use Rattle.ptk_timeline.specs.Layout.{are_steps_wide, are_windows_wide, column_place, column_width, is_shown, is_thread, lane_height, lanes_end, picture_height, picture_width, place_of, plot_width, shows_thread};
 
 use ptk_config::Config;
 use ptk_timeline_segments::{Cell, Lane, LaneRow, Recording, Scale, Shade};

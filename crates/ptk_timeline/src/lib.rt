@@ -3,9 +3,11 @@
 //! The picture of a run as SVG on any writer: a lane for each partition with its windows shaded, in it a row for each
 //! thread, and marks of what came.
 //!
-//! - A picture is, byte for byte, that of a recording of the run (`picture_with`, `drawn`: `IsPictureOf`): its lanes
-//!   begin one below the other where those before them end (`AreLanes`), and in each are the windows, its head, the
-//!   marks, a row for each thread that was there at some tick (`AreRows`), and what is not the partition's (`IsLane`).
+//! - A picture is, byte for byte, that of a recording of the run (`picture_with`, `drawn`: `IsPictureOf`), in at most
+//!   `MOST_COLUMNS` columns of as few ticks as that allows: its lanes begin one below the other where those before them
+//!   end (`AreLanes`), and in each are the windows, its head, the marks, a row for each thread that was there at some
+//!   tick (`AreRows`), and what is not the partition's (`IsLane`). No thread is left out: a recording has a lane for
+//!   each partition and in it a row for each thread number (`TellsOf`).
 //! - A row is cut into stretches of one look, owner and raised priority included, as long as possible on both sides:
 //!   each that has a thread is drawn as one bar (`IsRow`, `IsBar`). So are those that have something else too, and
 //!   those of one raised priority (`AreAlike`).

@@ -1,8 +1,5 @@
-use Rattle.ptk_timeline.proofs.Measures.{columns_counted, columns_few}
+use Rattle.ptk_timeline.proofs.Measures.{columns_few}
 use Rattle.ptk_timeline.proofs.layout.column_count.Goals as goal
-
-pub returns-clause-value : goal.returns-clause-value
-returns-clause-value c = columns_counted c.args.scale c.columns.result c.columns.ensures.all c.columns.ensures.some
 
 pub returns-clause-few : goal.returns-clause-few
 returns-clause-few c = columns_few c.args.scale c.columns.result c.columns.ensures.some

@@ -11,6 +11,6 @@ returns-in-Ok-write_timeline-clause-drawn g c =
     × Appends (g.W.Write.contents c.args.out.now) (g.W.Write.contents c.write_timeline.new.out) text = c.in-Ok-write_timeline.ensures in (
       told.0,
       of_recording c.args.config.now c.args.system.now c.args.names.now c.args.from c.args.to c.new-scale.result c.in-Ok.recording told.0 order c.in-Ok.ensures.scale
-          c.new-scale.ensures.from c.new-scale.ensures.to c.new-scale.ensures.single c.in-Ok.ensures.tells c.in-Ok.ensures.ended told.1,
+          c.new-scale.ensures.from c.new-scale.ensures.to c.new-scale.ensures.each c.in-Ok.ensures.tells c.in-Ok.ensures.ended told.1,
       told.2,
     )
