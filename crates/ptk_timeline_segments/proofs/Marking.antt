@@ -13,7 +13,7 @@ use Rattle.ptk_timeline_segments.specs.declared.marks.Marks.{Marks}
 use Rattle.ptk_timeline_segments.specs.declared.scale.Scale.{Scale}
 use Rattle.ptk_timeline_segments.specs.Columns.{columns_of, start_of}
 use Rattle.ptk_timeline_segments.specs.Marking.{both, brought_by, marks_at, marks_of, marks_there, no_marks}
-use Rattle.ptk_timeline_segments.specs.Marked.{AreMarked, BeginsAs, IsAsOf, IsMarkedBy, IsMarkedTo, brought_to}
+use Rattle.ptk_timeline_segments.specs.Marked.{AllHaveCome, AreMarked, BeginsAs, IsAsOf, IsMarkedBy, IsMarkedTo, brought_to}
 use Rattle.ptk_timeline_segments.specs.Recordings.{TellsMarks}
 
 -- ---- truth values
@@ -233,8 +233,12 @@ marked_on states tick due is_step old new one from later stays step is on = reco
 
 -- at the end each column has its marks
 pub marks_told : (states : ℕ → State) (scale : Scale) (lane : Lane) → lane.scale ≡ scale → lane.marked.scale ≡ lane.scale → lane.due ≡ scale.to
-    → (lane.scale.each ≡ 1 → IsMarkedTo states lane.due lane.marked) → TellsMarks states scale lane
-marks_told states scale lane same scaled done is = record { count = lane.marked.count ∙ ap columns_of own; columns = columns }
+    → (lane.scale.each ≡ 1 → IsMarkedTo states lane.due lane.marked) → AllHaveCome states lane.marked.scale lane.marked.columns.items → TellsMarks states scale lane
+marks_told states scale lane same scaled done is came = record {
+  count = lane.marked.count ∙ ap columns_of own;
+  came = subst (λ (s : Scale). AllHaveCome states s lane.marked.columns.items) own came;
+  columns = columns;
+}
   where
     own : lane.marked.scale ≡ scale
     own = scaled ∙ same

@@ -22,6 +22,7 @@ use Rattle.ptk_timeline_segments.specs.declared.scale.Scale.{Scale}
 use Rattle.ptk_timeline_segments.specs.Histories.{history, is_begun, is_entry_of, is_stepping, last_begun, look_at, look_in, owner_for, raised_of, step_end, stepping}
 use Rattle.ptk_timeline_segments.specs.Lanes.{GoesOn, IsDue, IsLaneOf, IsThreadsRow}
 use Rattle.ptk_timeline_segments.specs.Rows.{IsRowOf}
+use Rattle.ptk_timeline_segments.proofs.Came.{seen_stays}
 use Rattle.ptk_timeline_segments.proofs.Marking.{Stays}
 use Rattle.ptk_timeline_segments.proofs.Telling.{end_sooner, look_same, none_begun, states_stay, steps_same}
 
@@ -126,6 +127,7 @@ lane_passes world p from old new part is wide low before within steady scale mar
     threads = λ k. count ∙ is.threads k;
     scaled = ap (λ (m : Marked). m.scale) marked ∙ (is.scaled ∙ sym scale);
     marks = λ one. let each : new.scale.each ≡ old.scale.each = ap (λ (s : Scale). s.each) scale in absurd (omega (arith, one, each, wide));
+    seen = seen_stays states old.due new.due old.marked new.marked marked (omega (arith, before, later)) is.seen;
     rows = rows;
     ended = λ begun last sooner. ended begun (ap (λ (k : ℕ). last_begun states k (new.due - k)) (sym from_same) ∙ last) (omega (arith, sooner, to_same));
     steps = steps ∙ (ap (λ (s : State). s.account.steps) due.now ∙ sym (steps_same (states new.due) (states world.tick) (stays.same new.due later (omega arith))));

@@ -11,7 +11,7 @@ use Rattle.ptk_timeline_segments.specs.declared.scale.Scale.{Scale}
 use Rattle.ptk_timeline_segments.specs.declared.step.Busy.{Busy}
 use Rattle.ptk_timeline_segments.specs.declared.lane.Lane.{Lane}
 use Rattle.ptk_timeline_segments.specs.Histories.{history, last_begun, look_at, step_end, stepping}
-use Rattle.ptk_timeline_segments.specs.Marked.{IsMarkedTo}
+use Rattle.ptk_timeline_segments.specs.Marked.{HasSeen, IsMarkedTo}
 use Rattle.ptk_timeline_segments.specs.Rows.{HoldsOver, IsRowOf}
 
 -- the thread of the last step, with the tick behind it
@@ -62,6 +62,7 @@ pub record IsLaneOf (ticks : OwnTicks) (states : ℕ → State) (lane : Lane) : 
   pub threads : (k : ℕ) → length lane.rows.items ≡ length (states k).part.threads
   pub scaled : lane.marked.scale ≡ lane.scale
   pub marks : lane.scale.each ≡ 1 → IsMarkedTo states lane.due lane.marked
+  pub seen : HasSeen states lane.due lane.marked
   pub rows : (place : ℕ) (default : LaneRow) → place < length lane.rows.items → IsThreadsRow ticks states lane (place + 1) (slice_index_or lane.rows.items place default)
   pub ended : (begun : ℕ) → last_begun states lane.scale.from (lane.due - lane.scale.from) ≡ Some begun → lane.due < lane.scale.to → step_end ticks begun (states (begun + 1)) ≤ lane.due
   pub steps : lane.steps ≡ (states lane.due).account.steps

@@ -16,6 +16,7 @@ use Rattle.ptk_timeline_segments.specs.Cells.{IsCellOf}
 use Rattle.ptk_timeline_segments.specs.Columns.{columns_of, start_of}
 use Rattle.ptk_timeline_segments.specs.Histories.{history, look_at}
 use Rattle.ptk_timeline_segments.specs.Lanes.{IsLaneOf}
+use Rattle.ptk_timeline_segments.specs.Marked.{AllHaveCome}
 use Rattle.ptk_timeline_segments.specs.Marking.{marks_at}
 
 -- each lane shows its partition, up to this tick or a later one
@@ -31,9 +32,10 @@ pub record TellsLooks (look : ℕ → Look) (scale : Scale) (row : LaneRow) : Ty
   pub columns : (column : ℕ) (default : Cell) → start_of scale column < scale.to
       → IsCellOf look (start_of scale column) (start_of scale (column + 1)) (slice_index_or row.cells.items column default)
 
--- a lane has each column, and where that is a tick, the marks that the decisions of the picture make there
+-- a lane has each column, with marks of what came by then, and where a column is a tick, the marks that the decisions of the picture make there
 pub record TellsMarks (states : ℕ → State) (scale : Scale) (lane : Lane) : Type 0 where
   pub count : length lane.marked.columns.items ≡ columns_of scale
+  pub came : AllHaveCome states scale lane.marked.columns.items
   pub columns : scale.each ≡ 1 → (column : ℕ) (default : Marks) → scale.from + column < scale.to
       → slice_index_or lane.marked.columns.items column default ≡ marks_at states scale.from (scale.to - scale.from) (scale.from + column)
 

@@ -16,6 +16,8 @@
 //!   changes (`IsPassed`).
 //! - Where a column is a tick, its marks are all that the decisions of the picture make there: a step begins, input is
 //!   lost, the partition halts, and each tick that is lost (`tells`: `TellsMarks`, `marks_at`).
+//! - Whatever the columns, a mark is of what came in the picture, by its column's last tick (`AllHaveCome`). That all
+//!   that came has a mark is said only where a column is a tick.
 //! - `LaneRow::bar_from` returns the column behind a bar, which is all columns of one look, owner and raised priority
 //!   included, and is as long as possible on both sides (`bar`: `IsBar`; `next`).
 //! - `next_window` returns the partition's next window, tick by tick as the plan has it there, and none only where no

@@ -1,6 +1,6 @@
 //! What came in the columns of a lane.
 
-ghost use Rattle.std.specs.Prelude.{◌≡◌, ℕ, ◌<◌, ◌≤◌, ◌&&◌, ◌||◌, IfOk, length};
+ghost use Rattle.std.specs.Prelude.{◌≡◌, ℕ, ◌+◌, ◌-◌, ◌/◌, ◌<◌, ◌≤◌, ◌&&◌, ◌||◌, IfOk, length, true};
 ghost use Rattle.ptk_words.specs.declared.TheConstants.{LAST_TICK};
 ghost use Rattle.ptk_system.specs.World.{state_of};
 ghost use Rattle.ptk_timeline_segments.specs.Columns.{columns_of, start_of};
@@ -101,7 +101,8 @@ pub(crate) struct Marked {
 }
 
 impl Marked {
-    ghost use Rattle.ptk_timeline_segments.specs.Marked.{AreMarked, BeginsAs, IsMarkedBy};
+    ghost use Rattle.ptk_words_model.specs.State.{State};
+    ghost use Rattle.ptk_timeline_segments.specs.Marked.{AllHaveCome, AreMarked, BeginsAs, HaveCome, IsMarkedBy};
 
     /// No marks yet, with room for all columns. An error where memory ran out. No other call takes memory.
     pub(crate) fn new(
@@ -155,6 +156,9 @@ impl Marked {
         ensures scale { self.new.scale ≡ self.old.scale }
         ensures columns { self.old.scale.each ≡ 1 → self.old.scale.from ≤ tick →
             AreMarked brought.now tick self.old.scale self.old.columns.items self.new.columns.items }
+        ensures came { (states : ℕ → State) → ((column : ℕ) → (tick - self.old.scale.from) / self.old.scale.each ≤ column
+            → HaveCome states self.old.scale.from (start_of self.old.scale (column + 1)) (marks_there brought.now true))
+            → AllHaveCome states self.old.scale self.old.columns.items → AllHaveCome states self.old.scale self.new.columns.items }
     {
         let first = self.scale.column_of(tick);
         let more = brought.lost.max(1) - 1;

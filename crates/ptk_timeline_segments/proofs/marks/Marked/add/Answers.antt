@@ -1,7 +1,8 @@
-use Rattle.std.proofs.Common.{◌≡◌, ◌+◌, ◌-◌, ◌<◌, ◌≤◌, max, length, get_or, inl, inr, ◌∙◌, arith, length-set}
+use Rattle.std.proofs.Common.{◌≡◌, ◌+◌, ◌-◌, ◌<◌, ◌≤◌, ◌==◌, max, length, get_or, inl, inr, ◌∙◌, arith, length-set}
 use Rattle.std.proofs.lemmas.Bool.{cases_lt}
 use Rattle.ptk_timeline_segments.specs.declared.marks.Marks.{Marks}
 use Rattle.ptk_timeline_segments.specs.Marking.{both, marks_of}
+use Rattle.ptk_timeline_segments.proofs.Came.{column_came}
 use Rattle.ptk_timeline_segments.proofs.Lists.{on_more}
 use Rattle.ptk_timeline_segments.proofs.Marking.{column_at, column_kept, column_marked}
 use Rattle.ptk_timeline_segments.proofs.marks.Marked.add.Goals as goal
@@ -24,7 +25,15 @@ loop-column-preserved c = (
       (λ some.
       column_marked c.args.brought.now c.args.self.now.scale.from c.args.self.now.scale.to c.column_of-first.result c.loop-column.column c.args.tick c.index.result.now c.marks_there-marks.result c.and.result
       at low high c.marks_there-marks.ensures c.and.ensures some),
+  λ states came was.
+      let within : c.loop-column.column < length c.loop-column.self.columns.items = omega (arith, c.loop-column-test.true, c.min-end.ensures, c.len.ensures, c.loop-column.invariant.1) in
+      column_came states c.args.self.now.scale c.loop-column.self.columns.items c.loop-column.column c.args.brought.now (c.loop-column.column == c.column_of-first.result)
+      c.index.result.now c.marks_there-marks.result c.and.result within c.index.ensures c.marks_there-marks.ensures c.and.ensures (came c.loop-column.column (omega arith)) (c.loop-column.invariant.3 states came was),
 )
+
+pub returns-clause-came : goal.returns-clause-came
+returns-clause-came c = λ states came was.
+    c.loop-column.invariant.3 states (λ column le. came column (omega (arith, le, c.column_of-first.ensures))) was
 
 pub returns-clause-columns : goal.returns-clause-columns
 returns-clause-columns c = λ one from.
