@@ -1,13 +1,11 @@
 -- How many columns there are, how wide they are, and where ticks and lanes are.
-use Rattle.std.proofs.Common.{◌≡◌, ◌∙◌, ◌⊎◌, inl, inr, ℕ, zero, suc, ◌+◌, ◌-◌, ◌*◌, ◌/◌, ◌%◌, ◌^◌, ◌<◌, ◌≤◌, true, false, List, length, get_or, take, min, max, sym, ap, ap₂, subst, arith}
-use Rattle.std.specs.Prelude.{◌==◌, ◌&&◌, nat_le, count_by, sum_by, if◌then◌else◌}
-use Rattle.std.specs.Int.{div_ceil}
-use Rattle.std.proofs.Math.Nat.{mul-le-mul, mul-le-mul_right, le-mul_of_pos_right, mul_comm, mul_assoc, mul_right_comm, mul-div_cancel, div-le_self, div-le_of_le-mul, div-mul-le_self, div-one, mod-one}
-use Rattle.std.proofs.lemmas.Bool.{cases_lt, le-leb, lt-leb}
+use Rattle.std.proofs.Common.{◌≡◌, ◌∙◌, ℕ, zero, suc, ◌+◌, ◌-◌, ◌*◌, ◌/◌, ◌^◌, ◌<◌, ◌≤◌, true, false, List, length, get_or, take, min, max, sym, ap, ap₂, subst, arith}
+use Rattle.std.specs.Prelude.{nat_le, count_by, sum_by}
+use Rattle.std.proofs.Math.Nat.{mul-le-mul, mul-le-mul_right, le-mul_of_pos_right, mul_comm, mul_assoc, mul_right_comm, mul-div_cancel, div-le_self, div-le_of_le-mul, div-mul-le_self}
 use Rattle.std.proofs.lemmas.Grind.{div_ceil_times}
 use Rattle.std.proofs.lemmas.List.{take_all}
 use Rattle.std.proofs.lemmas.List.Sums.{count_by_more_yes, count_by_more_no, sum_by_more}
-use Rattle.std.proofs.lemmas.Nat.{div_below, le-div}
+use Rattle.std.proofs.lemmas.Nat.{le-div}
 use Rattle.ptk_words.specs.declared.TheConstants.{LAST_TICK}
 use Rattle.ptk_config.specs.Configuration.{Configuration}
 use Rattle.ptk_timeline_segments.specs.declared.lane.Lane.{Lane}
@@ -15,7 +13,7 @@ use Rattle.ptk_timeline_segments.specs.declared.row.LaneRow.{LaneRow}
 use Rattle.ptk_timeline_segments.specs.declared.scale.Scale.{Scale}
 use Rattle.ptk_timeline_segments.specs.Columns.{columns_of, start_of}
 use Rattle.ptk_timeline.specs.declared.layout.TheConstants.{GAP, HEAD, LEFT, ROW, TOP}
-use Rattle.ptk_timeline.specs.Layout.{are_steps_wide, are_windows_wide, column_place, column_width, height_within, is_shown, lane_height, lanes_end, place_of, plot_width, right_of}
+use Rattle.ptk_timeline.specs.Layout.{are_windows_wide, column_place, column_width, height_within, is_shown, lane_height, lanes_end, place_of, plot_width, right_of}
 
 -- ---- columns
 
@@ -26,41 +24,6 @@ columns_few scale (suc m) some =
     let here : min (scale.from + m * scale.each) scale.to < scale.to = some m (omega arith) in
     let wide : m ≤ m * scale.each = le-mul_of_pos_right m scale.some in
     omega (arith, here, wide)
-
--- where a column is a tick, there is one for each tick
-ceil_one : (ticks : ℕ) → div_ceil ticks 1 ≡ ticks
-ceil_one ticks =
-    let whole : ticks / 1 ≡ ticks = div-one ticks in
-    let rest : ticks % 1 ≡ 0 = mod-one ticks in
-    omega (arith, whole, rest)
-
--- 300 columns are four pixels wide
-wide_enough : (ticks : ℕ) → ticks ≤ 300 → nat_le 4 (min (max (1200 / max ticks 1) 2) 24) ≡ nat_le ticks 300
-wide_enough ticks few =
-    let fit : 4 * max ticks 1 ≤ 1200 = omega arith in
-    let wide : 4 ≤ 1200 / max ticks 1 = le-div 4 1200 (max ticks 1) (omega arith) fit in
-    le-leb 4 (min (max (1200 / max ticks 1) 2) 24) (omega (arith, wide)) ∙ sym (le-leb ticks 300 few)
-
--- more are not
-too_narrow : (ticks : ℕ) → 300 < ticks → nat_le 4 (min (max (1200 / max ticks 1) 2) 24) ≡ nat_le ticks 300
-too_narrow ticks many =
-    let over : 1200 < 4 * max ticks 1 = omega arith in
-    let narrow : 1200 / max ticks 1 < 4 = div_below 1200 (max ticks 1) 4 (omega arith) over in
-    lt-leb 4 (min (max (1200 / max ticks 1) 2) 24) (omega (arith, narrow)) ∙ sym (lt-leb ticks 300 many)
-
--- columns of a tick are four pixels wide where there are at most 300
-wide_up_to : (ticks : ℕ) → nat_le 4 (min (max (1200 / max ticks 1) 2) 24) ≡ nat_le ticks 300
-wide_up_to ticks = elim (cases_lt 300 ticks) [ inl many ↦ too_narrow ticks many | inr few ↦ wide_enough ticks few ]
-
--- the steps are seen apart where a column of a tick is four pixels wide
-pub steps_apart : (scale : Scale) → scale.each ≡ 1 → nat_le 4 (column_width scale) ≡ are_steps_wide scale
-steps_apart scale single = by (scale.to - scale.from) scale.each single
-  where
-    by : (ticks each : ℕ) → each ≡ 1
-        → nat_le 4 (if each == 1 then min (max (1200 / max (div_ceil ticks each) 1) 2) 24 else 2) ≡ ((each == 1) && nat_le ticks 300)
-    by ticks each one =
-        subst (λ (e : ℕ). nat_le 4 (if e == 1 then min (max (1200 / max (div_ceil ticks e) 1) 2) 24 else 2) ≡ ((e == 1) && nat_le ticks 300)) (sym one)
-        (ap (λ (n : ℕ). nat_le 4 (min (max (1200 / max n 1) 2) 24)) (ceil_one ticks) ∙ wide_up_to ticks)
 
 -- ---- places
 

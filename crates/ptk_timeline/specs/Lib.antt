@@ -10,3 +10,4 @@ pub mod Rows
 pub mod Legend
 pub mod Heads
 pub mod Picture
+pub use Rattle.ptk_timeline_starts.specs.Starts
