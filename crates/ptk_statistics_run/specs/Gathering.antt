@@ -162,7 +162,7 @@ abbrev pub with_each_of : (ThreadNumber → ThreadStatistics → List MutexStati
 with_each_of f threads zero mutexes = mutexes
 with_each_of f threads (suc n) mutexes = f (suc n) (slice_index_or threads n (new_thread doings.Free)) (with_each_of f threads n mutexes)
 
--- the figures of the mutexes with what f says of each thread, for so many as there are at most (own)
+-- the figures of the mutexes with what f says of each thread, up to the greatest number that a thread can have (own)
 abbrev pub with_all_waits : (ThreadNumber → ThreadStatistics → List MutexStatistics → List MutexStatistics) → List ThreadStatistics → List MutexStatistics → List MutexStatistics
 with_all_waits f threads mutexes = with_each_of f threads (min (length threads) THREAD_LIMIT) mutexes
 
@@ -290,7 +290,7 @@ call_behind_row entry s = option_and_then (λ number. owner_call number entry) (
 
 -- ---- before the first tick
 
--- room for this many threads and mutexes, up to as many as there are at most; each thread does what it does in this state, and nobody had a mutex (own)
+-- room for this many threads and mutexes, and for no more than a partition can have; each thread does what it does in this state, and nobody had a mutex (own)
 pub record IsFirst (s : Part) (thread_room mutex_room : ℕ) (observed : Observed) : Type 0 where
   pub count : length observed.threads.items ≡ min thread_room THREAD_LIMIT
   pub threads : (place : ℕ) (default : ThreadStatistics) → place < length observed.threads.items → slice_index_or observed.threads.items place default ≡ new_thread (doing_of (activity_in (place + 1) s))

@@ -20,7 +20,9 @@ mod advance;
 mod doing;
 mod observed;
 mod part;
+mod reading;
 mod statistics;
+mod waits;
 
 pub use part::PartStatistics;
 pub use ptk_main_runs::{

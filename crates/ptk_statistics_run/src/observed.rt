@@ -1,25 +1,25 @@
 //! What is seen of a partition's threads and mutexes at its decisions.
 
-ghost use Rattle.std.specs.Prelude.{◌≡◌, ◌-◌, ◌<◌, ◌≤◌, ◌&&◌, IfOk, None, length, not, true};
-ghost use Rattle.ptk_words.specs.Calls.{call_of};
+ghost use Rattle.std.specs.Prelude.{◌≡◌, ◌-◌, ◌<◌, ◌≤◌, IfOk, length, true};
 ghost use Rattle.ptk_words.specs.declared.TheConstants.{LAST_TICK, SP, THREAD_LIMIT};
 ghost use Rattle.ptk_main_runs.specs.Told.{register_in};
 ghost use Rattle.ptk_main_runs.specs.World.{state_of};
-ghost use Rattle.ptk_statistics_run.specs.Observations.{comes_by, has_halted, is_apart, is_late_error, is_owner_call, is_refused, is_reply_error, is_shared, number_in, owner_call, pc_behind, replied, step_at, with_reply, with_stack};
+ghost use Rattle.ptk_statistics_run.specs.Observations.{is_late_error, is_reply_error, number_in, replied, with_reply, with_stack};
 ghost use Rattle.ptk_statistics_run.specs.declared.observed.TheConstants.{MUTEX_LIMIT};
-ghost use Rattle.ptk_statistics_run.specs.Gathering.{AreMadeBy, AreSeen, AreWaitsSeen, IsFirst, IsSeen, at_step, at_step_end, begun, behind_row, call_behind_row, changed, finished, is_alone, is_input_by, is_preempted_behind, last_behind, looked_at, owned_until, running_from, seen, seen_apart, step_end, step_over, step_ticks, stepped_in, thread_of, threads_behind_row, wait_ended, waiting_for, waits_apart, waits_looked_at, waits_of_last, waits_seen, window_end, with_all_waits, with_call_made, with_last, with_mutex, with_outcome, with_owner, with_owner_behind, with_preemption, with_quiet_call, with_reply_at_wake, with_thread, with_wait};
+ghost use Rattle.ptk_statistics_run.specs.Gathering.{AreMadeBy, AreSeen, AreWaitsSeen, IsFirst, IsSeen, at_step, at_step_end, begun, behind_row, call_behind_row, changed, finished, is_alone, is_input_by, looked_at, owned_until, running_from, seen, seen_apart, step_over, stepped_in, thread_of, threads_behind_row, wait_ended, waits_apart, waits_looked_at, waits_of_last, waits_seen, with_all_waits, with_call_made, with_last, with_outcome, with_owner, with_owner_behind, with_preemption, with_quiet_call, with_reply_at_wake, with_thread};
 ghost use Rattle.ptk_main_runs.specs.Activities.{activity_in, owner_thread};
-ghost use Rattle.ptk_statistics_figures.specs.Mutexes.{waited_from};
-ghost use Rattle.ptk_statistics_figures.specs.Times.{time_between};
 
-use crate::doing::{doing_of, has_halted, is_preemption, is_ready, is_running, is_timed};
+use crate::doing::{doing_of, is_preemption, is_running};
+use crate::reading::{
+    call_of, is_apart, is_disturbed, is_late_error, is_preempted_behind, is_refused,
+    is_refused_behind, is_reply_error, last_behind, owner_call, pc_behind, step_at, step_ticks,
+};
+use crate::waits::end_wait;
 use ptk_main_runs::{Activity, System};
 use ptk_statistics_figures::{
     Doing, Moment, MutexStatistics, Pending, ThreadStatistics, free_mutexes, free_numbers,
 };
-use ptk_words::{
-    A0, A7, Call, ECALL, Entry, MutexNo, PartId, SP, THREAD_LIMIT, ThreadNo, Tick, cost,
-};
+use ptk_words::{ECALL, Entry, MutexNo, PartId, SP, THREAD_LIMIT, ThreadNo};
 use std::alloc::{AllocError, Global};
 
 /// How many mutexes a partition has at most.
@@ -602,14 +602,6 @@ fn end_made_call(
     }
 }
 
-/// Whether the reply to the call that a step is, where it is one, is an error to a thread that does this then.
-fn is_refused_behind(system: &System<'_>, p: PartId, entry: &Entry, doing: Doing) -> bool
-    requires { p < length system.now.config.sections }
-    ensures { result ≡ not (has_halted doing) && is_refused entry.now (state_of system.now p).part }
-{
-    !has_halted(doing) && is_refused(system, p, entry)
-}
-
 /// Where its step ends that began at a moment, in a run up to a tick, a thread runs on, or does something else.
 fn end_step(
     thread: &mut ThreadStatistics,
@@ -632,13 +624,6 @@ fn end_step(
     preempt_if(thread, is_preempted_behind(call, doing));
     thread.turn_to(doing, end);
     thread.wait_for(activity.mutex());
-}
-
-/// Whether a thread that does this behind its step, which is the call of a number if it is one, is preempted.
-fn is_preempted_behind(call: &Option<u32>, doing: Doing) -> bool
-    ensures { result ≡ is_preempted_behind call.now doing }
-{
-    is_ready(doing) && *call != Some(Call::SchedYield.number())
 }
 
 /// A thread made plain steps, and maybe a quiet call behind them: its stack pointer and that call. This is the last
@@ -678,22 +663,6 @@ fn see_quiet_call(
     }
 }
 
-/// The pc behind a step that is a call.
-fn pc_behind(entry: &Entry) -> u32
-    ensures { result ≡ pc_behind entry.now }
-{
-    entry.pc.wrapping_add(WORD)
-}
-
-/// Whether the reply to the call that a step is, where it is one, is an error, and its thread goes on behind it.
-#[inline(always)]
-fn is_refused(system: &System<'_>, p: PartId, entry: &Entry) -> bool
-    requires { p < length system.now.config.sections }
-    ensures { result ≡ is_refused entry.now (state_of system.now p).part }
-{
-    entry.a0 != 0 && system.pc(p, entry.thread) == Some(pc_behind(entry))
-}
-
 /// The reply that a woken thread got to the call with which it blocked, if it got one.
 fn take_reply(thread: &mut ThreadStatistics, system: &System<'_>, p: PartId, t: ThreadNo)
     requires { p < length system.now.config.sections }
@@ -721,14 +690,6 @@ fn take_reply_at_wake(
     }
 }
 
-/// Whether a thread goes on at this pc, and its reply is an error.
-fn is_reply_error(system: &System<'_>, p: PartId, t: ThreadNo, pc: u32) -> bool
-    requires { p < length system.now.config.sections }
-    ensures { result ≡ is_reply_error t (state_of system.now p).part pc }
-{
-    system.pc(p, t) == Some(pc) && system.register(p, t, A0).unwrap_or(0) != 0
-}
-
 /// The reply to the call with which a thread blocked, where the decision that woke it makes a step of it too: an error
 /// where it waited for a mutex or on a condition variable, since its deadline ended that wait.
 fn take_late_reply(thread: &mut ThreadStatistics, entry: &Entry)
@@ -740,13 +701,6 @@ fn take_late_reply(thread: &mut ThreadStatistics, entry: &Entry)
     }
 }
 
-/// Whether a step is at this pc, and a deadline ended the wait of its thread, which did this.
-fn is_late_error(entry: &Entry, doing: Doing, pc: u32) -> bool
-    ensures { result ≡ is_late_error entry.now doing pc }
-{
-    entry.pc == pc && is_timed(doing)
-}
-
 /// No reply to the call of this number is awaited any more.
 fn end_call(thread: &mut ThreadStatistics, number: u32, is_error: bool)
     ensures { thread.new ≡ replied number is_error thread.old }
@@ -755,43 +709,6 @@ fn end_call(thread: &mut ThreadStatistics, number: u32, is_error: bool)
     if is_error {
         thread.refuse(number);
     }
-}
-
-/// The wait of a thread for a mutex ends, if it waits for one.
-fn end_wait(thread: &mut ThreadStatistics, mutexes: &mut [MutexStatistics], t: ThreadNo, at: Moment)
-    ensures thread { thread.new ≡ waiting_for None thread.old }
-    ensures mutexes { mutexes.new ≡ wait_ended t at thread.old mutexes.old }
-{
-    let since = thread.since_moment();
-    let mutex = thread.mutex();
-    count_wait(mutexes, &mutex, t, since, at);
-    thread.wait_for(None);
-}
-
-/// A thread waited for a mutex from a moment to another, if it waited for one.
-fn count_wait(
-    mutexes: &mut [MutexStatistics],
-    mutex: &Option<MutexNo>,
-    t: ThreadNo,
-    from: Moment,
-    to: Moment,
-)
-    ensures { mutexes.new ≡ with_wait mutex.now t from to mutexes.old }
-{
-    if let Some(m) = mutex {
-        add_wait(mutexes, *m, t, from, to);
-    }
-}
-
-/// A thread waited for a mutex from a moment to another.
-fn add_wait(mutexes: &mut [MutexStatistics], m: MutexNo, t: ThreadNo, from: Moment, to: Moment)
-    ensures { mutexes.new ≡ with_mutex m (waited_from (time_between from to) t from) mutexes.old }
-{
-    let place = m.place();
-    if mutexes.len() <= place {
-        return;
-    }
-    mutexes[place].wait(to.since(from), t, from);
 }
 
 /// A thread has this stack pointer.
@@ -841,240 +758,4 @@ fn begin_with(thread: &mut ThreadStatistics, activity: &Activity)
     ensures { thread.new ≡ begun activity.now thread.old }
 {
     thread.begin(doing_of(activity));
-}
-
-/// The thread of the last step that was looked at, where this one was now, if there is one.
-fn last_behind(step: &Option<Entry>, last: Option<ThreadNo>) -> Option<ThreadNo>
-    ensures { result ≡ last_behind step.now last }
-{
-    match step {
-        Some(entry) => Some(entry.thread),
-        None => last,
-    }
-}
-
-/// The step that began at the tick, if one did.
-fn step_at(system: &System<'_>, p: PartId, tick: u64) -> Option<Entry>
-    requires { p < length system.now.config.sections }
-    ensures { result ≡ step_at tick (state_of system.now p).part }
-{
-    let entry = system.last_step(p)?;
-    if entry.tick.ticks() == tick {
-        Some(entry)
-    } else {
-        None
-    }
-}
-
-/// The number of the call that a step is, None of a step that is no call. A thread that ended with its call made
-/// pthread_exit.
-fn call_of(system: &System<'_>, p: PartId, entry: &Entry) -> Option<u32>
-    requires { p < length system.now.config.sections }
-    ensures { result ≡ number_in entry.now (state_of system.now p).part }
-{
-    if entry.word != ECALL {
-        return None;
-    }
-    let number = system.register(p, entry.thread, A7);
-    Some(number.unwrap_or(Call::PthreadExit.number()))
-}
-
-/// Whether input arrives or a deadline expires with the partition's decision at this tick.
-fn is_disturbed(system: &System<'_>, p: PartId, now: Tick) -> bool
-    requires { p < length system.now.config.sections }
-    ensures { is_input_by now (state_of system.now p).part ≡ true → result ≡ true }
-{
-    if comes_by(system.tables().next_deadline(p), now) {
-        return true;
-    }
-    is_input_due(system, p, now)
-}
-
-/// Whether the partition's next input comes at this tick or before it.
-fn is_input_due(system: &System<'_>, p: PartId, now: Tick) -> bool
-    requires { p < length system.now.config.sections }
-    ensures { result ≡ is_input_by now (state_of system.now p).part }
-{
-    comes_by(system.tables().next_arrival_tick(p), now)
-}
-
-/// Whether a tick, where there is one, is this one or before it.
-fn comes_by(tick: Option<Tick>, now: Tick) -> bool
-    ensures { result ≡ comes_by now tick }
-{
-    match tick {
-        Some(tick) => tick.ticks() <= now.ticks(),
-        None => false,
-    }
-}
-
-/// Whether a step can change what no other thread does but the one that ran before: an instruction of a partition that
-/// goes on, no call that wakes, makes, ends or frees a thread, and no step of a thread's end.
-fn is_apart(system: &System<'_>, p: PartId, entry: &Entry) -> bool
-    requires { p < length system.now.config.sections }
-    ensures { result ≡ is_apart entry.now (state_of system.now p).part }
-{
-    if system.status(p).is_halted() {
-        return false;
-    }
-    match call_of(system, p, entry) {
-        Some(number) => !is_shared(Call::of_number(number)),
-        None => entry.word != NO_WORD,
-    }
-}
-
-/// Whether a call wakes, makes, ends or frees a thread, or halts the partition.
-fn is_shared(call: Option<Call>) -> bool
-    ensures { result ≡ is_shared call }
-{
-    match call {
-        Some(
-            Call::Exit
-            | Call::PthreadCreate
-            | Call::PthreadExit
-            | Call::PthreadJoin
-            | Call::PthreadDetach
-            | Call::PthreadCancel
-            | Call::MutexUnlock
-            | Call::CondWait
-            | Call::CondTimedwait
-            | Call::CondSignal
-            | Call::CondBroadcast,
-        ) => true,
-        None
-        | Some(
-            Call::ConsolePut
-            | Call::ConsoleGet
-            | Call::ClockGettime
-            | Call::ClockNanosleep
-            | Call::PthreadSelf
-            | Call::SchedYield
-            | Call::PthreadSetschedparam
-            | Call::PthreadGetschedparam
-            | Call::PthreadSetschedprio
-            | Call::MutexInit
-            | Call::MutexDestroy
-            | Call::MutexLock
-            | Call::MutexTrylock
-            | Call::MutexTimedlock
-            | Call::MutexConsistent
-            | Call::CondInit
-            | Call::CondDestroy
-            | Call::PthreadSetcancelstate
-            | Call::PthreadSetcanceltype
-            | Call::PthreadTestcancel
-            | Call::CleanupPush
-            | Call::CleanupPop
-            | Call::KeyCreate
-            | Call::KeyDelete
-            | Call::PthreadSetspecific
-            | Call::PthreadGetspecific,
-        ) => false,
-    }
-}
-
-/// The call of this number that a step is, where it can give a mutex another owner.
-fn owner_call(entry: &Entry, number: u32) -> Option<OwnerCall>
-    ensures { result ≡ owner_call number entry.now }
-{
-    if changes_an_owner(number) {
-        Some(OwnerCall {
-            tick: entry.tick.ticks(),
-            cost: u64::from(cost(number)),
-        })
-    } else {
-        None
-    }
-}
-
-/// Whether a call of this number can give a mutex another owner while its caller goes on.
-fn changes_an_owner(number: u32) -> bool
-    ensures { result ≡ is_owner_call (call_of number) }
-{
-    match Call::of_number(number) {
-        Some(
-            Call::MutexInit
-            | Call::MutexDestroy
-            | Call::MutexLock
-            | Call::MutexTrylock
-            | Call::MutexTimedlock
-            | Call::MutexUnlock,
-        ) => true,
-        None
-        | Some(
-            Call::Exit
-            | Call::ConsolePut
-            | Call::ConsoleGet
-            | Call::ClockGettime
-            | Call::ClockNanosleep
-            | Call::PthreadCreate
-            | Call::PthreadExit
-            | Call::PthreadJoin
-            | Call::PthreadDetach
-            | Call::PthreadSelf
-            | Call::SchedYield
-            | Call::PthreadSetschedparam
-            | Call::PthreadGetschedparam
-            | Call::PthreadSetschedprio
-            | Call::MutexConsistent
-            | Call::CondInit
-            | Call::CondDestroy
-            | Call::CondWait
-            | Call::CondTimedwait
-            | Call::CondSignal
-            | Call::CondBroadcast
-            | Call::PthreadCancel
-            | Call::PthreadSetcancelstate
-            | Call::PthreadSetcanceltype
-            | Call::PthreadTestcancel
-            | Call::CleanupPush
-            | Call::CleanupPop
-            | Call::KeyCreate
-            | Call::KeyDelete
-            | Call::PthreadSetspecific
-            | Call::PthreadGetspecific,
-        ) => false,
-    }
-}
-
-/// How many ticks before `to` the partition's step takes that began at the tick.
-fn step_ticks(system: &System<'_>, p: PartId, tick: u64, to: u64) -> u64
-    requires partition { p < length system.now.config.sections }
-    requires early { tick ≤ LAST_TICK }
-    ensures { result ≡ step_ticks system.now p tick to }
-{
-    step_end(system, p, tick).min(to).saturating_sub(tick)
-}
-
-/// The end of the partition's step that began at the tick: its next decision, at the latest the end of its window, and
-/// the tick behind where it halted with it.
-fn step_end(system: &System<'_>, p: PartId, tick: u64) -> u64
-    requires partition { p < length system.now.config.sections }
-    requires early { tick ≤ LAST_TICK }
-    ensures { result ≡ step_end system.now p tick }
-{
-    if system.status(p).is_halted() {
-        return tick.saturating_add(1);
-    }
-    let end = window_end(system, p, tick);
-    match system.next(p) {
-        Some(next) => end.min(next.ticks()),
-        None => end,
-    }
-}
-
-/// The end of the partition's window that holds the tick, the tick itself where none does.
-fn window_end(system: &System<'_>, p: PartId, tick: u64) -> u64
-    requires { tick ≤ LAST_TICK }
-    ensures { result ≡ window_end system.now p tick }
-{
-    let config = system.config();
-    let Some((owner, end)) = config.plan().at(Tick::new(tick)) else {
-        return tick;
-    };
-    if owner.index() == p.index() {
-        end.ticks()
-    } else {
-        tick
-    }
 }

@@ -3,7 +3,7 @@ use Rattle.std.specs.Prelude.{option_map, slice_get}
 use Rattle.ptk_words.specs.declared.sections.Arrival.{Arrival}
 use Rattle.ptk_words_model.specs.State.{Part}
 use Rattle.ptk_statistics_run.specs.Observations.{comes_by}
-use Rattle.ptk_statistics_run.proofs.observed.is_input_due.Goals as goal
+use Rattle.ptk_statistics_run.proofs.reading.is_input_due.Goals as goal
 
 pub returns : goal.returns
 returns c =
