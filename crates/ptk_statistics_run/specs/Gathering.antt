@@ -1,5 +1,5 @@
 -- What becomes of the figures of threads and mutexes at a partition's decisions.
-use Rattle.std.specs.Prelude.{ℕ, zero, suc, ◌+◌, ◌-◌, ◌<◌, nat_eq, min, ◌==◌, Bool, true, false, ◌&&◌, not, if◌then◌else◌, MatchBool, List, length, replicate, slice_get, slice_index_or, slice_set, Option, Some, None, option_and_then, option_map, unwrap_or, ◌≡◌}
+use Rattle.std.specs.Prelude.{ℕ, zero, suc, ◌+◌, ◌-◌, ◌<◌, nat_eq, min, ◌==◌, Bool, true, false, ◌&&◌, ◌||◌, not, if◌then◌else◌, MatchBool, List, length, replicate, slice_get, slice_index_or, slice_set, Option, Some, None, option_and_then, option_map, unwrap_or, ◌≡◌}
 use Rattle.std.specs.Option.{option_eq}
 use Rattle.ptk_words.specs.Calls.{number_of}
 use Rattle.ptk_words.specs.Names.{MutexNumber, ThreadNumber, Tick}
@@ -8,8 +8,10 @@ use Rattle.ptk_words.specs.declared.calls.Call.TheVariants.{SchedYield}
 use Rattle.ptk_words.specs.declared.sections.Entry.{Entry}
 use Rattle.ptk_words_windows.specs.Windows.{own_ticks}
 use Rattle.ptk_words_model.specs.State.{Part}
+use Rattle.ptk_words_model.specs.Withdrawal.{deadlines_of}
 use Rattle.ptk_main_runs.specs.Activities.{activity_in, mutex_of_activity, owner_thread}
 use Rattle.ptk_main_runs.specs.Activity.{Activity}
+use Rattle.ptk_main_runs.specs.ByThread.{least_deadline}
 use Rattle.ptk_main_runs.specs.Told.{is_halted, register_in, status_in}
 use Rattle.ptk_main_runs.specs.World.{World, state_of}
 use Rattle.ptk_statistics_figures.specs.Doings.{is_blocked, is_ready, is_running}
@@ -260,9 +262,23 @@ pub record IsSeen (is_same : Doing → Doing → Bool) (world : World) (p : ℕ)
   pub last : after.last ≡ last_behind (step_at at.tick (state_of world p).part) before.last
   pub is_disturbed : after.is_disturbed ≡ before.is_disturbed
 
+-- ---- ahead of a decision
+
 -- input arrives at a tick or before it (own)
 abbrev pub is_input_by : Tick → Part → Bool
 is_input_by now s = comes_by now (option_map (λ arrival. arrival.tick) (slice_get s.console.coming 0))
+
+-- the least deadline of the threads is at a tick or before it (clock_nanosleep, pthread_mutex_timedlock, pthread_cond_timedwait)
+abbrev pub is_deadline_by : Tick → Part → Bool
+is_deadline_by now s = comes_by now (least_deadline (deadlines_of s.locks))
+
+-- something comes from outside with a decision at a tick: a deadline expires, or input arrives (own)
+abbrev pub is_disturbed_by : Tick → Part → Bool
+is_disturbed_by now s = is_deadline_by now s || is_input_by now s
+
+-- the figures of a partition that decides at the system's tick, ahead of that: as they were, with whether something comes from outside (own)
+abbrev pub expected : World → ℕ → Observed → Observed
+expected world p observed = record observed { is_disturbed = is_disturbed_by world.tick (state_of world p).part }
 
 -- ---- rows of plain steps
 

@@ -3,18 +3,21 @@ use Rattle.std.specs.Prelude.{◌≡◌, ℕ, ◌+◌, ◌<◌, ◌≤◌, nat_e
 use Rattle.std.specs.Option.{option_eq}
 use Rattle.ptk_words.specs.Names.{Tick}
 use Rattle.ptk_words.specs.declared.TheConstants.{LAST_TICK, THREAD_LIMIT}
+use Rattle.ptk_words_windows.specs.Windows.{own_ticks}
+use Rattle.ptk_words_model.specs.State.{State}
 use Rattle.ptk_main_runs.specs.World.{World, at_tick, state_of}
 use Rattle.ptk_statistics_run.specs.declared.part.PartStatistics.{PartStatistics}
 use Rattle.ptk_statistics_run.specs.declared.part.Sight.{Sight}
 use Rattle.ptk_statistics_run.specs.declared.part.Sight.TheVariants.{Coming, Decided}
 use Rattle.ptk_statistics_run.specs.declared.statistics.Statistics.{Statistics}
 use Rattle.ptk_statistics_figures.specs.Counts.{counted_ticks, reached}
+use Rattle.ptk_statistics_figures.specs.Own.{own_below}
 use Rattle.ptk_statistics_figures.specs.declared.counted.Counted.{Counted}
 use Rattle.ptk_statistics_figures.specs.declared.doing.Doing.{Doing}
 use Rattle.ptk_statistics_figures.specs.declared.moment.Moment.{Moment}
 use Rattle.ptk_statistics_figures.specs.declared.thread.ThreadStatistics.{ThreadStatistics}
 use Rattle.ptk_statistics_run.specs.declared.observed.Observed.{Observed}
-use Rattle.ptk_statistics_run.specs.Gathering.{AreMadeBy, IsSeen, finished, threads_behind_row}
+use Rattle.ptk_statistics_run.specs.Gathering.{AreMadeBy, IsSeen, expected, finished, threads_behind_row}
 use Rattle.ptk_statistics_run.specs.Sums.{AddsUp, Agrees}
 
 -- a decision that is looked at is at a tick of a run
@@ -43,26 +46,40 @@ pub record AgreesWith (world : World) (statistics : Statistics) : Type 0 where
 
 -- ---- what is seen of threads and mutexes
 
+-- the next decision of a partition in this state is at the tick (own)
+abbrev pub is_due_in : Tick → State → Bool
+is_due_in tick s = option_eq nat_eq s.account.next (Some tick)
+
 -- the partition decides at the system's tick (own)
 abbrev pub is_due_at : World → ℕ → Bool
-is_due_at world p = option_eq nat_eq (state_of world p).account.next (Some world.tick)
+is_due_at world p = is_due_in world.tick (state_of world p)
 
 -- the moment at a tick, where all is counted up to there (own)
 abbrev pub moment_at : Tick → Counted → Moment
 moment_at tick counted = record { own = counted_ticks counted; tick = tick }
 
--- the figures of all threads and mutexes are as they were (own)
-abbrev pub KeepsFigures : Observed → Observed → Type 0
-KeepsFigures before after = after ≡ record before { is_disturbed = after.is_disturbed }
+-- ahead of a partition's decision at the system's tick: whether something comes from outside with it, and each own tick below it is counted (own)
+pub record IsExpected (world : World) (p : ℕ) (before : Observed) (after : PartStatistics) : Type 0 where
+  pub observed : after.observed ≡ expected world p before
+  pub own : counted_ticks after.counted ≡ own_below (own_ticks world.config.plan p) world.tick
 
--- behind a tick: what is seen of the partition's decision, if it made one (own)
+-- ahead of a tick: what is expected of the partition's decision, if it makes one; else all is as it was (own)
+abbrev pub IsExpectedIfDue : World → ℕ → PartStatistics → PartStatistics → Type 0
+IsExpectedIfDue world p before after = MatchBool (is_due_at world p) (IsExpected world p before.observed after) (after ≡ record before { is_due = is_due_at world p })
+
+-- behind a partition's decision at a tick: what is seen of it, and all is counted up to the system's tick (own)
+pub record IsDecided (is_same : Doing → Doing → Bool) (world : World) (p : ℕ) (tick to : Tick) (before after : PartStatistics) : Type 0 where
+  pub observed : IsSeen is_same world p (moment_at tick before.counted) to before.observed after.observed
+  pub counted : reached after.counted ≡ world.tick
+  pub seen : after.seen ≡ (state_of world p).account.steps
+
+-- behind a tick: what is seen of the partition's decision, if it made one; else all is as it was (own)
 abbrev pub IsSeenIfDue : (Doing → Doing → Bool) → World → ℕ → Tick → Tick → PartStatistics → PartStatistics → Type 0
-IsSeenIfDue is_same world p tick to before after =
-    MatchBool before.is_due (IsSeen is_same world p (moment_at tick before.counted) to before.observed after.observed) (after.observed ≡ before.observed)
+IsSeenIfDue is_same world p tick to before after = MatchBool before.is_due (IsDecided is_same world p tick to before after) (after ≡ before)
 
 -- what is seen of a partition whose system will make its decisions, or made them (own)
 abbrev pub IsSeenBy : (Doing → Doing → Bool) → World → ℕ → Sight → Tick → PartStatistics → PartStatistics → Type 0
-IsSeenBy is_same world p Coming to before after = (after.is_due ≡ is_due_at world p) × KeepsFigures before.observed after.observed
+IsSeenBy is_same world p Coming to before after = (after.is_due ≡ is_due_at world p) × IsExpectedIfDue world p before after
 IsSeenBy is_same world p (Decided tick) to before after = IsSeenIfDue is_same world p tick to before after
 
 -- behind rows of plain steps and a quiet call: the figures of threads, which change where a step was made since they were looked at (own)

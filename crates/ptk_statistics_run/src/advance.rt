@@ -2,7 +2,8 @@
 
 ghost use Rattle.std.specs.Prelude.{◌≡◌, ◌<◌, ◌≤◌, length};
 ghost use Rattle.ptk_words.specs.declared.TheConstants.{LAST_TICK, THREAD_LIMIT};
-ghost use Rattle.ptk_statistics_figures.specs.Counts.{reached};
+ghost use Rattle.ptk_main_runs.specs.World.{state_of};
+ghost use Rattle.ptk_statistics_figures.specs.Counts.{reached, steps_in};
 ghost use Rattle.ptk_statistics_run.specs.Sums.{AddsUp};
 
 use ptk_main_runs::System;
@@ -27,6 +28,7 @@ pub(crate) fn advance(counted: &mut Counted, system: &System<'_>, p: PartId)
     requires order { reached counted.old ≤ system.now.tick }
     requires adds { AddsUp system.now p counted.old }
     ensures tick { reached counted.new ≡ system.now.tick }
+    ensures steps { steps_in counted.new ≡ (state_of system.now p).account.steps }
     ensures adds { AddsUp system.now p counted.new }
 {
     system.states_are_alone();

@@ -18,6 +18,7 @@
 
 mod advance;
 mod doing;
+mod due;
 mod observed;
 mod part;
 mod reading;

@@ -1,12 +1,12 @@
 //! What is seen of a partition's threads and mutexes at its decisions.
 
-ghost use Rattle.std.specs.Prelude.{◌≡◌, ◌-◌, ◌<◌, ◌≤◌, IfOk, length, true};
+ghost use Rattle.std.specs.Prelude.{◌≡◌, ◌-◌, ◌<◌, ◌≤◌, IfOk, length};
 ghost use Rattle.ptk_words.specs.declared.TheConstants.{LAST_TICK, SP, THREAD_LIMIT};
 ghost use Rattle.ptk_main_runs.specs.Told.{register_in};
 ghost use Rattle.ptk_main_runs.specs.World.{state_of};
 ghost use Rattle.ptk_statistics_run.specs.Observations.{is_late_error, is_reply_error, number_in, replied, with_reply, with_stack};
 ghost use Rattle.ptk_statistics_run.specs.declared.observed.TheConstants.{MUTEX_LIMIT};
-ghost use Rattle.ptk_statistics_run.specs.Gathering.{AreMadeBy, AreSeen, AreWaitsSeen, IsFirst, IsSeen, at_step, at_step_end, begun, behind_row, call_behind_row, changed, finished, is_alone, is_input_by, looked_at, owned_until, running_from, seen, seen_apart, step_over, stepped_in, thread_of, threads_behind_row, wait_ended, waits_apart, waits_looked_at, waits_of_last, waits_seen, with_all_waits, with_call_made, with_last, with_outcome, with_owner, with_owner_behind, with_preemption, with_quiet_call, with_reply_at_wake, with_thread};
+ghost use Rattle.ptk_statistics_run.specs.Gathering.{AreMadeBy, AreSeen, AreWaitsSeen, IsFirst, IsSeen, at_step, at_step_end, begun, behind_row, call_behind_row, changed, expected, finished, is_alone, looked_at, owned_until, running_from, seen, seen_apart, step_over, stepped_in, thread_of, threads_behind_row, wait_ended, waits_apart, waits_looked_at, waits_of_last, waits_seen, with_all_waits, with_call_made, with_last, with_outcome, with_owner, with_owner_behind, with_preemption, with_quiet_call, with_reply_at_wake, with_thread};
 ghost use Rattle.ptk_main_runs.specs.Activities.{activity_in, owner_thread};
 
 use crate::doing::{doing_of, is_preemption, is_running};
@@ -135,8 +135,7 @@ impl Observed {
     /// Whether input arrives or a deadline expires with the partition's decision at the system's tick.
     pub(crate) fn look_ahead(&mut self, system: &System<'_>, p: PartId)
         requires { p < length system.now.config.sections }
-        ensures others { self.new ≡ record self.old { is_disturbed = self.new.is_disturbed } }
-        ensures input { is_input_by system.now.tick (state_of system.now p).part ≡ true → self.new.is_disturbed ≡ true }
+        ensures { self.new ≡ expected system.now p self.old }
     {
         self.is_disturbed = is_disturbed(system, p, system.tick());
     }

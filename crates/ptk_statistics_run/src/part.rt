@@ -1,13 +1,14 @@
 //! The figures of a partition.
 
-ghost use Rattle.std.specs.Prelude.{◌≡◌, ◌<◌, ◌≤◌, IfOk, length};
+ghost use Rattle.std.specs.Prelude.{◌≡◌, ◌<◌, ◌≤◌, IfOk, MatchBool, length};
 ghost use Rattle.ptk_words.specs.declared.TheConstants.{LAST_TICK};
 ghost use Rattle.ptk_statistics_figures.specs.Counts.{reached};
 ghost use Rattle.ptk_main_runs.specs.World.{state_of};
-ghost use Rattle.ptk_statistics_run.specs.Gathering.{IsFirst, IsSeen, threads_behind_row};
-ghost use Rattle.ptk_statistics_run.specs.Parts.{IsBefore, IsFinished, IsKept, IsSeenBy, IsSeenIfDue, KeepsFigures, is_due_at, moment_at, threads_behind_rows};
+ghost use Rattle.ptk_statistics_run.specs.Gathering.{IsFirst, threads_behind_row};
+ghost use Rattle.ptk_statistics_run.specs.Parts.{IsBefore, IsDecided, IsExpected, IsExpectedIfDue, IsFinished, IsKept, IsSeenBy, IsSeenIfDue, is_due_at, threads_behind_rows};
 
 use crate::advance::{advance, first_count};
+use crate::due::is_due;
 use crate::observed::{Observed, OwnerCall};
 use ptk_main_runs::System;
 use ptk_statistics_figures::{Counted, Doing, Moment, MutexStatistics, ThreadStatistics};
@@ -79,9 +80,22 @@ impl PartStatistics {
         requires kept { IsKept system.now p self.old }
         ensures kept { IsKept system.now p self.new }
         ensures due { self.new.is_due ≡ is_due_at system.now p }
-        ensures seen { KeepsFigures self.old.observed self.new.observed }
+        ensures expected { IsExpectedIfDue system.now p self.old self.new }
     {
-        self.is_due = system.next(p) == Some(system.tick());
+        self.is_due = is_due(system, p);
+        self.expect_if_due(system, p);
+    }
+
+    /// Looks ahead at the decision that the partition makes at the system's tick, if it makes one.
+    #[inline(always)]
+    fn expect_if_due(&mut self, system: &System<'_>, p: PartId)
+        requires partition { p < length system.now.config.sections }
+        requires early { system.now.tick ≤ LAST_TICK }
+        requires kept { IsKept system.now p self.old }
+        ensures kept { IsKept system.now p self.new }
+        ensures due { self.new.is_due ≡ self.old.is_due }
+        ensures expected { MatchBool self.old.is_due (IsExpected system.now p self.old.observed self.new) (self.new ≡ self.old) }
+    {
         if self.is_due {
             self.expect(system, p);
         }
@@ -94,12 +108,26 @@ impl PartStatistics {
         requires kept { IsKept system.now p self.old }
         ensures kept { IsKept system.now p self.new }
         ensures due { self.new.is_due ≡ self.old.is_due }
-        ensures seen { KeepsFigures self.old.observed self.new.observed }
+        ensures expected { IsExpected system.now p self.old.observed self.new }
     {
         self.observed.look_ahead(system, p);
-        if self.counted.tick() < system.tick().ticks() {
-            self.count(system, p);
+        self.count_on(system, p);
+    }
+
+    /// Counts up to the system's tick, where that is not done yet.
+    #[inline(always)]
+    fn count_on(&mut self, system: &System<'_>, p: PartId)
+        requires partition { p < length system.now.config.sections }
+        requires early { system.now.tick ≤ LAST_TICK }
+        requires kept { IsKept system.now p self.old }
+        ensures kept { IsKept system.now p self.new }
+        ensures tick { reached self.new.counted ≡ system.now.tick }
+        ensures same { self.new ≡ record self.old { counted = self.new.counted; seen = self.new.seen } }
+    {
+        if system.tick().ticks() <= self.counted.tick() {
+            return;
         }
+        self.count(system, p);
     }
 
     /// Looks at the decision that the partition made at a tick, if it made one.
@@ -123,7 +151,7 @@ impl PartStatistics {
         requires last { tick ≤ LAST_TICK }
         requires kept { IsKept system.now p self.old }
         ensures kept { IsKept system.now p self.new }
-        ensures seen { IsSeen ⟦<Doing as PartialEq>⟧.eq system.now p (moment_at tick self.old.counted) to self.old.observed self.new.observed }
+        ensures seen { IsDecided ⟦<Doing as PartialEq>⟧.eq system.now p tick to self.old self.new }
     {
         let own = self.counted.own();
         self.observed.look(system, p, Moment { own, tick }, to);
@@ -186,6 +214,7 @@ impl PartStatistics {
         requires kept { IsKept system.now p self.old }
         ensures kept { IsKept system.now p self.new }
         ensures tick { reached self.new.counted ≡ system.now.tick }
+        ensures seen { self.new.seen ≡ (state_of system.now p).account.steps }
         ensures same { self.new ≡ record self.old { counted = self.new.counted; seen = self.new.seen } }
     {
         advance(&mut self.counted, system, p);

@@ -1,12 +1,12 @@
 //! What is read of a partition of a system: the step that a decision began, the call that this is, whether something
 //! came from outside with it, and how long it takes.
 
-ghost use Rattle.std.specs.Prelude.{◌≡◌, ◌<◌, ◌≤◌, ◌&&◌, length, not, true};
+ghost use Rattle.std.specs.Prelude.{◌≡◌, ◌<◌, ◌≤◌, ◌&&◌, length, not};
 ghost use Rattle.ptk_words.specs.Calls.{call_of};
 ghost use Rattle.ptk_words.specs.declared.TheConstants.{LAST_TICK};
 ghost use Rattle.ptk_main_runs.specs.World.{state_of};
 ghost use Rattle.ptk_statistics_run.specs.Observations.{comes_by, has_halted, is_apart, is_late_error, is_owner_call, is_refused, is_reply_error, is_shared, number_in, owner_call, pc_behind, step_at};
-ghost use Rattle.ptk_statistics_run.specs.Gathering.{is_input_by, is_preempted_behind, last_behind, step_end, step_ticks, window_end};
+ghost use Rattle.ptk_statistics_run.specs.Gathering.{is_deadline_by, is_disturbed_by, is_input_by, is_preempted_behind, last_behind, step_end, step_ticks, window_end};
 
 use crate::doing::{has_halted, is_ready, is_timed};
 use crate::observed::{NO_WORD, OwnerCall, WORD};
@@ -99,12 +99,17 @@ pub(crate) fn is_preempted_behind(call: &Option<u32>, doing: Doing) -> bool
 /// Whether input arrives or a deadline expires with the partition's decision at this tick.
 pub(crate) fn is_disturbed(system: &System<'_>, p: PartId, now: Tick) -> bool
     requires { p < length system.now.config.sections }
-    ensures { is_input_by now (state_of system.now p).part ≡ true → result ≡ true }
+    ensures { result ≡ is_disturbed_by now (state_of system.now p).part }
 {
-    if comes_by(system.tables().next_deadline(p), now) {
-        return true;
-    }
-    is_input_due(system, p, now)
+    is_deadline_due(system, p, now) || is_input_due(system, p, now)
+}
+
+/// Whether the least deadline of the partition's threads is at this tick or before it.
+fn is_deadline_due(system: &System<'_>, p: PartId, now: Tick) -> bool
+    requires { p < length system.now.config.sections }
+    ensures { result ≡ is_deadline_by now (state_of system.now p).part }
+{
+    comes_by(system.tables().next_deadline(p), now)
 }
 
 /// Whether the partition's next input comes at this tick or before it.
