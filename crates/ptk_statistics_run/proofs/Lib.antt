@@ -2,3 +2,4 @@ pub mod Growing
 pub mod Sums
 pub mod Gathering
 pub mod Parts
+pub mod Stretches

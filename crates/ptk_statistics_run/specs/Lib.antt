@@ -2,6 +2,7 @@ pub mod Sums
 pub mod Parts
 pub mod Observations
 pub mod Gathering
+pub mod Stretches
 pub use Rattle.ptk_main_runs.specs.Members
 pub use Rattle.ptk_main_runs.specs.Missing
 pub use Rattle.ptk_main_runs.specs.PartStatus

@@ -1,11 +1,11 @@
 -- That the figures of all partitions add up, and what is seen of their threads and mutexes, while they are gathered and in the end.
-use Rattle.std.specs.Prelude.{◌≡◌, ℕ, ◌+◌, ◌<◌, ◌≤◌, nat_eq, ◌==◌, Bool, if◌then◌else◌, MatchBool, List, length, slice_index_or, Some}
+use Rattle.std.specs.Prelude.{◌≡◌, ℕ, ◌<◌, ◌≤◌, nat_eq, ◌==◌, Bool, if◌then◌else◌, MatchBool, List, length, slice_index_or, Some}
 use Rattle.std.specs.Option.{option_eq}
 use Rattle.ptk_words.specs.Names.{Tick}
 use Rattle.ptk_words.specs.declared.TheConstants.{LAST_TICK, THREAD_LIMIT}
 use Rattle.ptk_words_windows.specs.Windows.{own_ticks}
 use Rattle.ptk_words_model.specs.State.{State}
-use Rattle.ptk_main_runs.specs.World.{World, at_tick, state_of}
+use Rattle.ptk_main_runs.specs.World.{World, state_of}
 use Rattle.ptk_statistics_run.specs.declared.part.PartStatistics.{PartStatistics}
 use Rattle.ptk_statistics_run.specs.declared.part.Sight.{Sight}
 use Rattle.ptk_statistics_run.specs.declared.part.Sight.TheVariants.{Coming, Decided}
@@ -106,9 +106,3 @@ AreBehindRows world before after =
 -- where the run ends: what each partition's threads did so far they did until then, by all that is counted (own)
 abbrev pub AreFinished : List PartStatistics → List PartStatistics → Type 0
 AreFinished before after = (p : ℕ) (default : PartStatistics) → p < length before → IsFinished (slice_index_or before p default) (slice_index_or after p default)
-
--- the decisions at a tick: each partition's is looked at ahead of it and behind it (own)
-pub record AreDecided (is_same : Doing → Doing → Bool) (world : World) (tick to : Tick) (before after : List PartStatistics) : Type 0 where
-  pub ahead : List PartStatistics
-  pub coming : AreSeenBy is_same world Coming to before ahead
-  pub decided : AreSeenBy is_same (at_tick (tick + 1) world) (Decided tick) to ahead after

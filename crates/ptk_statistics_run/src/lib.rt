@@ -4,17 +4,21 @@
 //!
 //! - `Statistics::of_run` is a run to its tick (`run`), and the counts agree with the system then (`agrees`:
 //!   `AgreesWith`): its steps, its lost ticks, its own ticks.
+//! - Its figures are those before the first tick, gathered one stretch of ticks after another up to the last tick, and
+//!   then finished (`figures`: `AreFiguresOf`, `AreGathered`). A stretch is the decisions at a tick, each partition's
+//!   looked at ahead of it and behind it, and the ticks behind them over which nothing changes (`AreDecided`), or a row
+//!   of steps of a thread that runs, over which no thread does anything else, with a look at each partition behind it
+//!   (`IsRow`), or a row and the decisions where it ends (`IsStretch`).
 //! - What a thread does, which step a decision began, and which call that step is are the definitions' (`doing_of`,
 //!   `step_at`, `number_in`). So is what a decision leaves of the figures of a thread that makes a step (`stepped`) and
 //!   of one that makes none (`looked_at`), and of those of the mutexes, with the waits that end and the owners that are
-//!   new (`wait_ended`, `with_owner`). Each partition is looked at ahead of the decisions at a tick and behind them
-//!   (`AreDecided`), behind rows of plain steps (`AreBehindRows`) and at the end (`AreFinished`). At which ticks a run
-//!   does so, and that an expired deadline makes it look at all threads, is tested.
+//!   new (`wait_ended`, `with_owner`). All threads are looked at where a deadline expires or input arrives
+//!   (`is_disturbed_by`).
 //!
 //! The run goes on by single decisions where a call or a change may come, by rows of plain steps between, and over
-//! ticks at which nothing is due at once. What is gathered over a whole run is tested. Below are the figures of one
-//! partition (`ptk_statistics_figures`) and whole runs (`ptk_main_runs`); above is what the program answers to `stats`
-//! (`ptk_statistics`). No clause is costly to prove.
+//! ticks at which nothing is due at once. That a row has one call at most, its last step, is tested. Below are the
+//! figures of one partition (`ptk_statistics_figures`) and whole runs (`ptk_main_runs`); above is what the program
+//! answers to `stats` (`ptk_statistics`). No clause is costly to prove.
 
 mod advance;
 mod doing;

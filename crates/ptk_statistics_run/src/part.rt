@@ -48,6 +48,8 @@ impl PartStatistics {
         requires begun { system.now.tick ≡ 0 }
         ensures kept { IfOk result (IsKept system.now p) }
         ensures first { IfOk result (λ part. IsFirst (state_of system.now p).part threads mutexes part.observed) }
+        ensures tick { IfOk result (λ part. reached part.counted ≡ 0) }
+        ensures seen { IfOk result (λ part. part.seen ≡ 0) }
     {
         let observed = Observed::new(alloc, system, p, threads, mutexes)?;
         Ok(PartStatistics {

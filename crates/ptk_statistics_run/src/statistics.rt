@@ -1,14 +1,16 @@
 //! The figures of a run.
 
-ghost use Rattle.std.specs.Prelude.{◌≡◌, ℕ, ◌<◌, ◌≤◌, IfOk, length, max, slice_index_or};
+ghost use Rattle.std.specs.Prelude.{◌≡◌, ◌<◌, ◌≤◌, IfOk, OnErr, length};
 ghost use Rattle.ptk_words.specs.declared.TheConstants.{LAST_TICK};
-ghost use Rattle.ptk_main_runs.specs.World.{at_tick};
-ghost use Rattle.ptk_statistics_run.specs.Parts.{AgreesWith, AreBehindRows, AreDecided, AreEnded, AreFinished, AreKept, AreSeenBy, IsBefore};
+ghost use Rattle.ptk_main_runs.specs.World.{at_tick, section_at};
+ghost use Rattle.ptk_statistics_run.specs.Parts.{AgreesWith, AreBehindRows, AreEnded, AreFinished, AreKept, AreSeenBy, IsBefore};
+ghost use Rattle.ptk_statistics_run.specs.Stretches.{AreDecided, AreFiguresOf, AreFirst, AreGathered, IsStretch};
 
+use crate::due::{are_due_behind, is_running};
 use crate::part::{PartStatistics, Sight};
 use ptk_main_runs::System;
 use ptk_statistics_figures::Doing;
-use ptk_words::{ECALL, PartId, Tick};
+use ptk_words::{Limits, PartId, Tick};
 use std::alloc::{AllocError, Global};
 
 /// The figures of each partition of a run.
@@ -29,11 +31,12 @@ impl Statistics {
         requires early { to ≤ LAST_TICK }
         ensures run { IfOk result (λ _. system.new ≡ at_tick to system.old) }
         ensures agrees { IfOk result (AgreesWith system.new) }
+        ensures still { OnErr result (system.new ≡ system.old) }
+        ensures figures { IfOk result (AreFiguresOf ⟦<Doing as PartialEq>⟧.eq system.old to) }
     {
         let parts = first_parts(alloc, system)?;
         let mut statistics = Statistics { parts };
         statistics.run(system, to);
-        system.run_to(to);
         statistics.finish(system);
         Ok(statistics)
     }
@@ -45,14 +48,14 @@ impl Statistics {
         self.parts.as_slice()
     }
 
-    /// Goes on from change to change, before a tick.
+    /// Goes on to a tick, one stretch after another.
     fn run(&mut self, system: &mut System<'_>, to: Tick)
         requires early { to ≤ LAST_TICK }
         requires order { system.old.tick ≤ to }
         requires kept { AreKept system.old self.old.parts.items }
-        ensures run { system.new ≡ at_tick system.new.tick system.old }
-        ensures within { system.new.tick ≤ to }
+        ensures run { system.new ≡ at_tick to system.old }
         ensures kept { AreKept system.new self.new.parts.items }
+        ensures gathered { AreGathered ⟦<Doing as PartialEq>⟧.eq system.old to self.old.parts.items to self.new.parts.items }
     {
         system.states_are_alone();
         let mut tick = system.tick().ticks();
@@ -62,7 +65,8 @@ impl Statistics {
         }
     }
 
-    /// Goes on over plain steps and the quiet call behind them, or else over the decisions at the system's tick.
+    /// Goes on over one stretch: the decisions at the system's tick where nobody runs, else plain steps and the quiet
+    /// call behind them, and the decisions behind those where no step was made or the last one was plain.
     fn go_on(&mut self, system: &mut System<'_>, to: Tick)
         requires early { to ≤ LAST_TICK }
         requires due { system.old.tick < to }
@@ -71,32 +75,35 @@ impl Statistics {
         ensures on { system.old.tick < system.new.tick }
         ensures within { system.new.tick ≤ to }
         ensures kept { AreKept system.new self.new.parts.items }
+        ensures stretch { IsStretch ⟦<Doing as PartialEq>⟧.eq system.old to self.old.parts.items system.new.tick self.new.parts.items }
     {
-        let tick = system.tick();
-        if is_running(system, tick) {
-            system.call_to(to);
-            self.look_at_rows(system);
+        let from = system.tick();
+        let runs = is_running(system);
+        if !runs {
+            self.decide(system, to);
+            return;
         }
-        let reached = system.tick();
-        if reached == tick
-            || (reached.ticks() < to.ticks() && is_behind_plain_step(system, reached))
-        {
-            self.decide(system, reached.ticks(), to);
+        system.call_to(to);
+        self.look_at_rows(system);
+        let is_due = are_due_behind(system, from, to);
+        if !is_due {
+            return;
         }
+        self.decide(system, to);
     }
 
     /// Goes on over the decisions at the system's tick, and to the next change.
-    fn decide(&mut self, system: &mut System<'_>, tick: u64, to: Tick)
+    fn decide(&mut self, system: &mut System<'_>, to: Tick)
         requires early { to ≤ LAST_TICK }
-        requires at { system.old.tick ≡ tick }
-        requires due { tick < to }
+        requires due { system.old.tick < to }
         requires kept { AreKept system.old self.old.parts.items }
         ensures run { system.new ≡ at_tick system.new.tick system.old }
-        ensures on { tick < system.new.tick }
+        ensures on { system.old.tick < system.new.tick }
         ensures within { system.new.tick ≤ to }
         ensures kept { AreKept system.new self.new.parts.items }
-        ensures seen { AreDecided ⟦<Doing as PartialEq>⟧.eq system.old tick to self.old.parts.items self.new.parts.items }
+        ensures seen { AreDecided ⟦<Doing as PartialEq>⟧.eq system.old to system.new.tick self.old.parts.items self.new.parts.items }
     {
+        let tick = system.tick().ticks();
         self.look(system, Sight::Coming, to);
         system.run_to(Tick::new(tick + 1));
         self.look(system, Sight::Decided(tick), to);
@@ -177,43 +184,23 @@ fn finish_all(parts: &mut [PartStatistics], system: &System<'_>)
 /// The figures of a booted system's partitions before the first tick.
 fn first_parts(alloc: Global, system: &System<'_>) -> Result<Vec<PartStatistics>, AllocError>
     requires { system.now.tick ≡ 0 }
-    ensures { IfOk result (λ parts. AreKept system.now parts.items) }
+    ensures kept { IfOk result (λ parts. AreKept system.now parts.items) }
+    ensures first { IfOk result (λ parts. AreFirst system.now parts.items) }
 {
     let mut parts = Vec::new(alloc);
     for i in 0..system.parts() {
-        let (threads, mutexes) = match system.config().sections().get(i) {
-            Some(section) => (section.limits().threads, section.limits().mutexes),
-            None => (0, 0),
-        };
         let p = PartId::new(i as u8);
-        parts.push(PartStatistics::new(alloc, system, p, threads, mutexes)?)?;
+        let limits = limits_of(system, p);
+        let part = PartStatistics::new(alloc, system, p, limits.threads, limits.mutexes)?;
+        parts.push(part)?;
     }
     Ok(parts)
 }
 
-/// Whether a partition that decides at the tick has a thread that runs.
-fn is_running(system: &System<'_>, tick: Tick) -> bool {
-    for i in 0..system.parts() {
-        let p = PartId::new(i as u8);
-        if system.next(p) == Some(tick) {
-            return system.running(p).is_some();
-        }
-    }
-    false
-}
-
-/// Whether a partition that decides at the tick made a plain step just before it: a row of plain steps that ended there
-/// is followed by no quiet call.
-fn is_behind_plain_step(system: &System<'_>, tick: Tick) -> bool {
-    for i in 0..system.parts() {
-        let p = PartId::new(i as u8);
-        if system.next(p) == Some(tick) {
-            return match system.last_step(p) {
-                Some(entry) => entry.word != ECALL
-                    && entry.tick.ticks().saturating_add(1) == tick.ticks(),
-                None => false,
-            };
-        }
-    }
-    false
+/// The numbers of a partition's section.
+fn limits_of(system: &System<'_>, p: PartId) -> Limits
+    requires { p < length system.now.config.sections }
+    ensures { result ≡ (section_at system.now.config p).limits }
+{
+    system.config().sections()[p.index()].limits()
 }

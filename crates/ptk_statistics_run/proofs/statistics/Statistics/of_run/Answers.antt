@@ -1,12 +1,15 @@
-use Rattle.std.proofs.Common.{◌≡◌, ◌∙◌, ap, max, arith}
-use Rattle.ptk_main_runs.specs.World.{at_tick}
-use Rattle.ptk_statistics_run.proofs.Parts.{kept_later}
+use Rattle.std.proofs.Common.{ap, arith}
+use Rattle.ptk_main_runs.specs.World.{World}
 use Rattle.ptk_statistics_run.proofs.statistics.Statistics.of_run.Goals as goal
 
-pub finish-requires-clause-kept : goal.finish-requires-clause-kept
-finish-requires-clause-kept c = kept_later c.run.new.system c.run_to.new.self _ c.run.new.self.parts.items c.run_to.ensures (omega arith) c.run.ensures.kept
+pub finish-requires-clause-early : goal.finish-requires-clause-early
+finish-requires-clause-early c = omega (arith, ap (λ (world : World). world.tick) c.run.ensures.run, c.requires.early)
 
-pub returns-clause-run : goal.returns-clause-run
-returns-clause-run c =
-    let reached : max c.run.new.system.tick c.args.to ≡ c.args.to = omega (arith, c.run.ensures.within) in
-    c.run_to.ensures ∙ (ap (λ n. at_tick n c.run.new.system) reached ∙ ap (at_tick c.args.to) c.run.ensures.run)
+pub returns-clause-figures : goal.returns-clause-figures
+returns-clause-figures c = record {
+  first = c.in_ok-parts.parts.items;
+  last = c.run.new.self.parts.items;
+  begun = c.in_ok-parts.ensures.first;
+  gathered = c.run.ensures.gathered;
+  finished = c.finish.ensures.finished;
+}

@@ -1,14 +1,36 @@
-use Rattle.std.proofs.Common.{arith}
+use Rattle.std.proofs.Common.{◌≡◌, ℕ, ◌∙◌, ap, subst, arith}
+use Rattle.ptk_main_runs.specs.World.{World, at_tick}
 use Rattle.ptk_main_runs.proofs.Keeping.{at_again}
+use Rattle.ptk_statistics_figures.specs.contracts.doing.DoingPartialEq.TheImpl as doing_eq
+use Rattle.ptk_statistics_run.specs.Stretches.{AreGathered, IsStretch, at_first, gone_on}
 use Rattle.ptk_statistics_run.proofs.statistics.Statistics.run.Goals as goal
 
 pub loop-tick-init : goal.loop-tick-init
-loop-tick-init c = (c.states_are_alone.ensures.all, c.requires.order, omega (arith, c.ticks-tick.ensures, c.tick.ensures), c.requires.kept)
+loop-tick-init c = record {
+  run = c.states_are_alone.ensures.all;
+  within = c.requires.order;
+  at = c.ticks-tick.ensures ∙ c.tick.ensures;
+  kept = c.requires.kept;
+  gathered = at_first;
+}
 
 pub loop-tick-preserved : goal.loop-tick-preserved
-loop-tick-preserved c = (
-  at_again c.args.system.now c.loop-tick.system c.go_on.new.system _ c.loop-tick.invariant.0 c.go_on.ensures.run,
-  c.go_on.ensures.within,
-  omega arith,
-  c.go_on.ensures.kept,
-)
+loop-tick-preserved c = record {
+  run = at_again c.args.system.now c.loop-tick.system c.go_on.new.system _ c.loop-tick.invariant.run c.go_on.ensures.run;
+  within = c.go_on.ensures.within;
+  at = omega arith;
+  kept = c.go_on.ensures.kept;
+  gathered = gone_on c.loop-tick.system.tick c.go_on.new.system.tick c.loop-tick.self.parts.items c.go_on.new.self.parts.items c.loop-tick.invariant.gathered
+      (subst (λ (world : World). IsStretch (doing_eq.ghosts).eq world c.args.to c.loop-tick.self.parts.items c.go_on.new.system.tick c.go_on.new.self.parts.items)
+      c.loop-tick.invariant.run c.go_on.ensures.stretch);
+}
+
+pub returns-clause-run : goal.returns-clause-run
+returns-clause-run c =
+    let reached : c.loop-tick.system.tick ≡ c.args.to = omega arith in
+    c.loop-tick.invariant.run ∙ ap (λ (n : ℕ). at_tick n c.args.system.now) reached
+
+pub returns-clause-gathered : goal.returns-clause-gathered
+returns-clause-gathered c =
+    let reached : c.loop-tick.system.tick ≡ c.args.to = omega arith in
+    subst (λ (n : ℕ). AreGathered (doing_eq.ghosts).eq c.args.system.now c.args.to c.args.self.now.parts.items n c.loop-tick.self.parts.items) reached c.loop-tick.invariant.gathered

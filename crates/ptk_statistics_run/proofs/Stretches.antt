@@ -1,0 +1,55 @@
+-- Who decides first at a tick, when decisions are due behind a row, and up to where nothing changes.
+use Rattle.std.proofs.Common.{◌≡◌, ◌≢◌, ℕ, ◌<◌, ◌≤◌, max, Bool, true, false, cond, nat_lt, ◌==◌, List, length, get_or, Some, None, position, ◌⊎◌, sym, ap, subst, ◌∙◌, arith, inl, inr}
+use Rattle.std.specs.List.{position_or_len}
+use Rattle.std.proofs.lemmas.Bool.{and_parts, cases_eq, eq-eqb, eqb-true, false≢true, le-ltb, lt-ltb, ltb-true, or_cases, or_parts}
+use Rattle.std.proofs.lemmas.List.Sums.{position_or_len_is}
+use Rattle.ptk_main_runs.specs.World.{World, at_tick, but_next, state_of}
+use Rattle.ptk_statistics_run.specs.Stretches.{IsStillTo, are_due_behind, ends_behind_plain_step, is_behind_plain_step}
+
+-- ---- the first that passes
+
+pub first_here : {A : Type 0} (p : A → Bool) (xs : List A) (i : ℕ) (default : A) → i < length xs → ((k : ℕ) → k < i → p (get_or xs k default) ≡ false) → p (get_or xs i default) ≡ true
+    → position p xs ≡ Some i
+first_here p xs i default within none here =
+    let at : position_or_len p xs ≡ i = position_or_len_is p xs i default (omega (arith, within)) none (λ _. here) in
+    ap (λ (k : ℕ). cond (nat_lt k (length xs)) (Some k) None) at ∙ ap (λ (b : Bool). cond b (Some i) None) (lt-ltb i (length xs) within)
+
+pub first_nowhere : {A : Type 0} (p : A → Bool) (xs : List A) (default : A) → ((k : ℕ) → k < length xs → p (get_or xs k default) ≡ false) → position p xs ≡ None
+first_nowhere p xs default none =
+    let at : position_or_len p xs ≡ length xs = position_or_len_is p xs (length xs) default (omega arith) none (λ (lt : length xs < length xs). absurd (omega (arith, lt))) in
+    ap (λ (k : ℕ). cond (nat_lt k (length xs)) (Some k) None) at ∙ ap (λ (b : Bool). cond b (Some (length xs)) None) (le-ltb (length xs) (length xs) (omega arith))
+
+-- ---- behind a row
+
+-- where decisions are due, they are before the run's end
+pub due_within : (from to : ℕ) (world : World) → from < to → are_due_behind from to world ≡ true → world.tick < to
+due_within from to world order is = elim (or_cases (world.tick == from) (ends_behind_plain_step to world) is) [
+  | inl none ↦ let same : world.tick ≡ from = eqb-true world.tick from none in omega (arith, same, order)
+  | inr behind ↦ ltb-true world.tick to (and_parts (nat_lt world.tick to) (is_behind_plain_step world) behind).0
+]
+
+-- where none are, the row made steps
+pub went_on : (from to : ℕ) (world : World) → from ≤ world.tick → are_due_behind from to world ≡ false → from < world.tick
+went_on from to world order none = by (cases_eq world.tick from)
+  where
+    by : (world.tick ≡ from) ⊎ (world.tick ≢ from) → from < world.tick
+    by (inl same) = absurd (false≢true (sym (or_parts (world.tick == from) (ends_behind_plain_step to world) none).0 ∙ eq-eqb world.tick from same))
+    by (inr other) = omega (arith, order, other)
+
+-- ---- up to where nothing changes
+
+-- a system at a tick of a run stands at its own
+pub alone_again : (first now : World) (n : ℕ) → now ≡ at_tick n first → now ≡ at_tick now.tick now
+alone_again first now n goes = goes ∙ (sym (ap (at_tick n) goes) ∙ ap (λ (k : ℕ). at_tick k now) (sym (ap (λ (w : World). w.tick) goes)))
+
+-- the tick that a system goes on to while nothing changes
+pub still_to : (world : World) (to until next : ℕ) → world ≡ at_tick world.tick world → world.tick ≤ to → next ≡ max world.tick until → IsStillTo world to until → IsStillTo world to next
+still_to world to until next alone early goes still =
+    let at_once : (p : ℕ) → but_next (state_of (at_tick world.tick world) p) ≡ but_next (state_of world p) = λ p. ap (λ (w : World). but_next (state_of w p)) (sym alone) in
+    let reach : world.tick ≤ until =
+    still.latest world.tick early
+    (λ p lt j from on.
+    let same : j ≡ world.tick = omega (arith, from, on) in
+    ap (λ (k : ℕ). but_next (state_of (at_tick k world) p)) same ∙ at_once p) in
+    let same : until ≡ next = omega (arith, goes, reach) in
+    subst (IsStillTo world to) same still

@@ -1,0 +1,112 @@
+-- How the figures of a run are gathered, one stretch of ticks after another.
+use Rattle.std.specs.Prelude.{◌≡◌, ℕ, ◌+◌, ◌<◌, ◌≤◌, nat_lt, ◌==◌, Bool, true, false, ◌&&◌, ◌||◌, not, List, length, slice_index_or, Option, Some, is_some, option_and_then, option_map, position, unwrap_or}
+use Rattle.ptk_words.specs.Names.{Tick}
+use Rattle.ptk_words.specs.declared.TheConstants.{ECALL}
+use Rattle.ptk_words.specs.declared.sections.Entry.{Entry}
+use Rattle.ptk_main_runs.specs.Activities.{activity_in}
+use Rattle.ptk_main_runs.specs.Activity.TheVariants.{Running}
+use Rattle.ptk_main_runs.specs.World.{World, at_tick, but_next, section_at, state_of}
+use Rattle.ptk_statistics_figures.specs.Counts.{reached}
+use Rattle.ptk_statistics_figures.specs.Times.{capped_sum}
+use Rattle.ptk_statistics_figures.specs.declared.doing.Doing.{Doing}
+use Rattle.ptk_statistics_run.specs.declared.part.PartStatistics.{PartStatistics}
+use Rattle.ptk_statistics_run.specs.declared.part.Sight.TheVariants.{Coming, Decided}
+use Rattle.ptk_statistics_run.specs.declared.statistics.Statistics.{Statistics}
+use Rattle.ptk_statistics_run.specs.Gathering.{IsFirst}
+use Rattle.ptk_statistics_run.specs.Parts.{AreBehindRows, AreFinished, AreSeenBy, is_due_in}
+
+-- ---- who decides at a tick
+
+-- the first partition that decides at the system's tick, if there is one (own)
+abbrev pub first_due : World → Option ℕ
+first_due world = position (is_due_in world.tick) world.states
+
+-- a thread of it runs (own)
+abbrev pub is_running_at : World → Bool
+is_running_at world = is_some (option_and_then (λ p. (state_of world p).part.running) (first_due world))
+
+-- its last step, if it made one (own)
+abbrev pub last_step_due : World → Option Entry
+last_step_due world = option_and_then (λ p. (state_of world p).part.last) (first_due world)
+
+-- the step is no call, and began at the tick before this one (own)
+abbrev pub is_plain_before : Tick → Entry → Bool
+is_plain_before tick entry = not (entry.word == ECALL) && (capped_sum entry.tick 1 == tick)
+
+-- that last step is a plain one just before the system's tick (own)
+abbrev pub is_behind_plain_step : World → Bool
+is_behind_plain_step world = unwrap_or (option_map (is_plain_before world.tick) (last_step_due world)) false
+
+-- a row of steps, in a run up to a tick, ended before that tick with a plain one (own)
+abbrev pub ends_behind_plain_step : Tick → World → Bool
+ends_behind_plain_step to world = nat_lt world.tick to && is_behind_plain_step world
+
+-- the decisions at the system's tick are looked at behind a row that began at a tick, in a run up to another: it made no step, or it ended with a plain one (own)
+abbrev pub are_due_behind : Tick → Tick → World → Bool
+are_due_behind from to world = (world.tick == from) || ends_behind_plain_step to world
+
+-- ---- a stretch
+
+-- up to this tick nothing changes of any partition but the tick of its next decision, and in a run up to a tick it is the last such one (own)
+pub record IsStillTo (world : World) (to next : Tick) : Type 0 where
+  pub within : next ≤ to
+  pub stay : (p : ℕ) → p < length world.config.sections → (k : ℕ) → world.tick ≤ k → k ≤ next → but_next (state_of (at_tick k world) p) ≡ but_next (state_of world p)
+  pub latest : (k : ℕ) → k ≤ to
+      → ((p : ℕ) → p < length world.config.sections → (j : ℕ) → world.tick ≤ j → j ≤ k → but_next (state_of (at_tick j world) p) ≡ but_next (state_of world p)) → k ≤ next
+
+-- the decisions at the system's tick, in a run up to a tick: each partition's is looked at ahead of it and behind it, and then nothing changes up to this tick (own)
+pub record AreDecided (is_same : Doing → Doing → Bool) (world : World) (to next : Tick) (before after : List PartStatistics) : Type 0 where
+  pub ahead : List PartStatistics
+  pub coming : AreSeenBy is_same world Coming to before ahead
+  pub decided : AreSeenBy is_same (at_tick (world.tick + 1) world) (Decided world.tick) to ahead after
+  pub still : IsStillTo (at_tick (world.tick + 1) world) to next
+
+-- from the system's tick on and up to another each thread of a partition does what it did, and each step is of the thread that runs (XSH 2.8.4; own)
+pub record RunsOn (world : World) (p next : ℕ) : Type 0 where
+  pub threads : (k : ℕ) → world.tick ≤ k → k ≤ next → (t : ℕ) → activity_in t (state_of (at_tick k world) p).part ≡ activity_in t (state_of world p).part
+  pub steps : (k : ℕ) → world.tick ≤ k → k < next → (state_of (at_tick k world) p).account.steps < (state_of (at_tick (k + 1) world) p).account.steps
+      → (entry : Entry) → (state_of (at_tick (k + 1) world) p).part.last ≡ Some entry → activity_in entry.thread (state_of world p).part ≡ Running
+
+-- a row of steps of a thread that runs, up to this tick, in a run up to a tick: no thread does anything else on the way, and each partition is looked at behind it (own)
+pub record IsRow (world : World) (to next : Tick) (before after : List PartStatistics) : Type 0 where
+  pub running : is_running_at world ≡ true
+  pub from : world.tick ≤ next
+  pub within : next ≤ to
+  pub steady : (p : ℕ) → p < length world.config.sections → RunsOn world p next
+  pub behind : AreBehindRows (at_tick next world) before after
+
+-- a stretch, from the system's tick up to this one: the decisions at its first tick where nobody runs, else a row, and behind it the decisions at its last tick where they are due (own)
+pub data IsStretch (is_same : Doing → Doing → Bool) (world : World) (to : Tick) (before : List PartStatistics) : Tick → List PartStatistics → Type 0 where
+  of_decisions : (next : Tick) (after : List PartStatistics) → is_running_at world ≡ false → AreDecided is_same world to next before after
+      → IsStretch is_same world to before next after
+  of_row : (next : Tick) (after : List PartStatistics) → IsRow world to next before after → are_due_behind world.tick to (at_tick next world) ≡ false
+      → IsStretch is_same world to before next after
+  of_both : (reached next : Tick) (behind after : List PartStatistics) → IsRow world to reached before behind → are_due_behind world.tick to (at_tick reached world) ≡ true
+      → AreDecided is_same (at_tick reached world) to next behind after → IsStretch is_same world to before next after
+
+-- ---- a run
+
+-- the figures at a tick of a run up to another, gathered from these at its first tick on by one stretch after another (own)
+pub data AreGathered (is_same : Doing → Doing → Bool) (world : World) (to : Tick) (first : List PartStatistics) : Tick → List PartStatistics → Type 0 where
+  at_first : AreGathered is_same world to first world.tick first
+  gone_on : (tick next : Tick) (before after : List PartStatistics) → AreGathered is_same world to first tick before → IsStretch is_same (at_tick tick world) to before next after
+      → AreGathered is_same world to first next after
+
+-- the figures of a partition before a tick is counted: those of its threads and mutexes by its section's numbers, and none of its steps was looked at (own)
+pub record IsFirstOf (world : World) (p : ℕ) (part : PartStatistics) : Type 0 where
+  pub observed : IsFirst (state_of world p).part (section_at world.config p).limits.threads (section_at world.config p).limits.mutexes part.observed
+  pub tick : reached part.counted ≡ 0
+  pub seen : part.seen ≡ 0
+
+-- so of each partition (own)
+pub record AreFirst (world : World) (parts : List PartStatistics) : Type 0 where
+  pub count : length parts ≡ length world.config.sections
+  pub each : (p : ℕ) (default : PartStatistics) → p < length parts → IsFirstOf world p (slice_index_or parts p default)
+
+-- the figures of a run from the system's tick up to another: the first ones, gathered up to there and then finished (own)
+pub record AreFiguresOf (is_same : Doing → Doing → Bool) (world : World) (to : Tick) (statistics : Statistics) : Type 0 where
+  pub first : List PartStatistics
+  pub last : List PartStatistics
+  pub begun : AreFirst world first
+  pub gathered : AreGathered is_same world to first to last
+  pub finished : AreFinished last statistics.parts.items
