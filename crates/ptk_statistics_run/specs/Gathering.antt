@@ -1,5 +1,5 @@
 -- What becomes of the figures of threads and mutexes at a partition's decisions.
-use Rattle.std.specs.Prelude.{ℕ, zero, suc, ◌+◌, ◌-◌, ◌<◌, nat_eq, min, ◌==◌, Bool, true, false, ◌&&◌, ◌||◌, not, if◌then◌else◌, MatchBool, List, length, replicate, slice_get, slice_index_or, slice_set, Option, Some, None, option_and_then, option_map, unwrap_or, ◌≡◌}
+use Rattle.std.specs.Prelude.{ℕ, zero, suc, ◌+◌, ◌-◌, ◌<◌, nat_eq, nat_lt, min, ◌==◌, Bool, true, false, ◌&&◌, ◌||◌, not, if◌then◌else◌, MatchBool, List, length, replicate, slice_get, slice_index_or, slice_set, Option, Some, None, option_and_then, option_map, unwrap_or, ◌≡◌}
 use Rattle.std.specs.Option.{option_eq}
 use Rattle.ptk_words.specs.Calls.{number_of}
 use Rattle.ptk_words.specs.Names.{MutexNumber, ThreadNumber, Tick}
@@ -187,6 +187,11 @@ finished at thread = waiting_for None (record thread { spans = spans_until at th
 abbrev pub owned_until : Moment → MutexStatistics → MutexStatistics
 owned_until at mutex = owned_from mutex.owner at mutex
 
+-- where the run ends, at a moment: the figures of mutexes are those with the wait of each thread, and the time for which each was owned ends (own)
+abbrev pub AreOwnedUntil : Moment → List ThreadStatistics → List MutexStatistics → List MutexStatistics → Type 0
+AreOwnedUntil at threads before after =
+    AreMadeBy (λ m. owned_until at) (length (with_all_waits (λ t. wait_ended t at) threads before)) (with_all_waits (λ t. wait_ended t at) threads before) after
+
 -- ---- owners
 
 -- owned by this thread, or by none, at a moment: from then on, unless it was so before (own)
@@ -303,6 +308,20 @@ threads_behind_row (Some entry) s threads = with_thread entry.thread (behind_row
 -- the call that ends such steps, the last of which is this, where it can give a mutex another owner (own)
 abbrev pub call_behind_row : Entry → Part → Option OwnerCall
 call_behind_row entry s = option_and_then (λ number. owner_call number entry) (number_in entry s)
+
+-- the thread of a step is one of those that have figures (own)
+abbrev pub has_figures : Entry → List ThreadStatistics → Bool
+has_figures entry threads = nat_lt (entry.thread - 1) (length threads)
+
+-- the call that ends such steps of a thread that has figures, where it can give a mutex another owner (own)
+abbrev pub call_of_row : Option Entry → Part → List ThreadStatistics → Option OwnerCall
+call_of_row None s threads = None
+call_of_row (Some entry) s threads = if has_figures entry threads then call_behind_row entry s else None
+
+-- the thread of the last step that was looked at, behind such steps (own)
+abbrev pub last_of_row : Option Entry → List ThreadStatistics → Option ThreadNumber → Option ThreadNumber
+last_of_row None threads last = last
+last_of_row (Some entry) threads last = if has_figures entry threads then Some entry.thread else last
 
 -- ---- before the first tick
 

@@ -1,10 +1,11 @@
 -- That the figures of all partitions add up, and what is seen of their threads and mutexes, while they are gathered and in the end.
-use Rattle.std.specs.Prelude.{◌≡◌, ℕ, ◌<◌, ◌≤◌, nat_eq, ◌==◌, Bool, if◌then◌else◌, MatchBool, List, length, slice_index_or, Some}
+use Rattle.std.specs.Prelude.{◌≡◌, ℕ, ◌-◌, ◌<◌, ◌≤◌, nat_eq, ◌==◌, Bool, if◌then◌else◌, MatchBool, List, length, slice_index_or, Option, Some, None}
 use Rattle.std.specs.Option.{option_eq}
-use Rattle.ptk_words.specs.Names.{Tick}
+use Rattle.ptk_words.specs.Names.{ThreadNumber, Tick}
 use Rattle.ptk_words.specs.declared.TheConstants.{LAST_TICK, THREAD_LIMIT}
 use Rattle.ptk_words_windows.specs.Windows.{own_ticks}
 use Rattle.ptk_words_model.specs.State.{State}
+use Rattle.ptk_main_runs.specs.Activities.{owner_thread}
 use Rattle.ptk_main_runs.specs.World.{World, state_of}
 use Rattle.ptk_statistics_run.specs.declared.part.PartStatistics.{PartStatistics}
 use Rattle.ptk_statistics_run.specs.declared.part.Sight.{Sight}
@@ -15,9 +16,12 @@ use Rattle.ptk_statistics_figures.specs.Own.{own_below}
 use Rattle.ptk_statistics_figures.specs.declared.counted.Counted.{Counted}
 use Rattle.ptk_statistics_figures.specs.declared.doing.Doing.{Doing}
 use Rattle.ptk_statistics_figures.specs.declared.moment.Moment.{Moment}
+use Rattle.ptk_statistics_figures.specs.declared.mutex.MutexStatistics.{MutexStatistics}
 use Rattle.ptk_statistics_figures.specs.declared.thread.ThreadStatistics.{ThreadStatistics}
 use Rattle.ptk_statistics_run.specs.declared.observed.Observed.{Observed}
-use Rattle.ptk_statistics_run.specs.Gathering.{AreMadeBy, IsSeen, expected, finished, threads_behind_row}
+use Rattle.ptk_statistics_run.specs.declared.observed.OwnerCall.{OwnerCall}
+use Rattle.ptk_statistics_run.specs.declared.observed.TheConstants.{MUTEX_LIMIT}
+use Rattle.ptk_statistics_run.specs.Gathering.{AreMadeBy, AreOwnedUntil, IsSeen, call_of_row, expected, finished, last_of_row, threads_behind_row, with_owner}
 use Rattle.ptk_statistics_run.specs.Sums.{AddsUp, Agrees}
 
 -- a decision that is looked at is at a tick of a run
@@ -89,20 +93,50 @@ threads_behind_rows world p part =
     then part.observed.threads.items
     else threads_behind_row (state_of world p).part.last (state_of world p).part part.observed.threads.items
 
--- where the run ends: what the threads did so far they did until then, by all that is counted (own)
-abbrev pub IsFinished : PartStatistics → PartStatistics → Type 0
-IsFinished before after = AreMadeBy (λ t. finished (moment_at (reached after.counted) after.counted)) THREAD_LIMIT before.observed.threads.items after.observed.threads.items
+-- the moment at which a call began that ended at the system's tick: as many of the partition's own ticks before that as it cost (own)
+abbrev pub call_moment : World → ℕ → OwnerCall → Moment
+call_moment world p call = record { own = own_below (own_ticks world.config.plan p) world.tick - call.cost; tick = call.tick }
+
+-- behind such steps each mutex has the owner that it has then, from the call on that ends them; without such a call none has another (pthread_mutex_lock; own)
+abbrev pub AreOwnersBehind : World → ℕ → Option OwnerCall → List MutexStatistics → List MutexStatistics → Type 0
+AreOwnersBehind world p None before after = after ≡ before
+AreOwnersBehind world p (Some call) before after = AreMadeBy (λ m. with_owner (owner_thread (state_of world p).part.locks m) (call_moment world p call)) MUTEX_LIMIT before after
+
+-- the figures of mutexes behind rows: they change where a step was made since they were looked at (own)
+abbrev pub AreOwnersBehindRows : World → ℕ → PartStatistics → List MutexStatistics → Type 0
+AreOwnersBehindRows world p before after =
+    MatchBool ((state_of world p).account.steps == before.seen)
+    (after ≡ before.observed.mutexes.items)
+    (AreOwnersBehind world p (call_of_row (state_of world p).part.last (state_of world p).part before.observed.threads.items) before.observed.mutexes.items after)
+
+-- the thread of the last step that was looked at, behind rows (own)
+abbrev pub last_behind_rows : World → ℕ → PartStatistics → Option ThreadNumber
+last_behind_rows world p part =
+    if (state_of world p).account.steps == part.seen
+    then part.observed.last
+    else last_of_row (state_of world p).part.last part.observed.threads.items part.observed.last
+
+-- behind rows of plain steps and a quiet call: the figures of a partition, of which each step was looked at (own)
+pub record IsBehindRows (world : World) (p : ℕ) (before after : PartStatistics) : Type 0 where
+  pub threads : after.observed.threads.items ≡ threads_behind_rows world p before
+  pub mutexes : AreOwnersBehindRows world p before after.observed.mutexes.items
+  pub last : after.observed.last ≡ last_behind_rows world p before
+  pub seen : after.seen ≡ (state_of world p).account.steps
+
+-- where the run ends, by all that is counted: what the threads did so far they did until then, and whoever owned a mutex owned it until then (own)
+pub record IsFinished (before after : PartStatistics) : Type 0 where
+  pub threads : AreMadeBy (λ t. finished (moment_at (reached after.counted) after.counted)) THREAD_LIMIT before.observed.threads.items after.observed.threads.items
+  pub mutexes : AreOwnedUntil (moment_at (reached after.counted) after.counted) before.observed.threads.items before.observed.mutexes.items after.observed.mutexes.items
 
 -- so of each partition, in their order (own)
 abbrev pub AreSeenBy : (Doing → Doing → Bool) → World → Sight → Tick → List PartStatistics → List PartStatistics → Type 0
 AreSeenBy is_same world sight to before after =
     (p : ℕ) (default : PartStatistics) → p < length before → IsSeenBy is_same world p sight to (slice_index_or before p default) (slice_index_or after p default)
 
--- behind rows of plain steps and quiet calls: the figures of each partition's threads (own)
+-- behind rows of plain steps and quiet calls: the figures of each partition, in their order (own)
 abbrev pub AreBehindRows : World → List PartStatistics → List PartStatistics → Type 0
-AreBehindRows world before after =
-    (p : ℕ) (default : PartStatistics) → p < length before → (slice_index_or after p default).observed.threads.items ≡ threads_behind_rows world p (slice_index_or before p default)
+AreBehindRows world before after = (p : ℕ) (default : PartStatistics) → p < length before → IsBehindRows world p (slice_index_or before p default) (slice_index_or after p default)
 
--- where the run ends: what each partition's threads did so far they did until then, by all that is counted (own)
+-- where the run ends: so of each partition, in their order (own)
 abbrev pub AreFinished : List PartStatistics → List PartStatistics → Type 0
 AreFinished before after = (p : ℕ) (default : PartStatistics) → p < length before → IsFinished (slice_index_or before p default) (slice_index_or after p default)

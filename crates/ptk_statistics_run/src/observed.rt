@@ -1,12 +1,12 @@
 //! What is seen of a partition's threads and mutexes at its decisions.
 
-ghost use Rattle.std.specs.Prelude.{◌≡◌, ◌-◌, ◌<◌, ◌≤◌, IfOk, length};
+ghost use Rattle.std.specs.Prelude.{◌≡◌, ◌-◌, ◌<◌, ◌≤◌, IfOk, None, Some, length};
 ghost use Rattle.ptk_words.specs.declared.TheConstants.{LAST_TICK, SP, THREAD_LIMIT};
 ghost use Rattle.ptk_main_runs.specs.Told.{register_in};
 ghost use Rattle.ptk_main_runs.specs.World.{state_of};
 ghost use Rattle.ptk_statistics_run.specs.Observations.{is_late_error, is_reply_error, number_in, replied, with_reply, with_stack};
 ghost use Rattle.ptk_statistics_run.specs.declared.observed.TheConstants.{MUTEX_LIMIT};
-ghost use Rattle.ptk_statistics_run.specs.Gathering.{AreMadeBy, AreSeen, AreWaitsSeen, IsFirst, IsSeen, at_step, at_step_end, begun, behind_row, call_behind_row, changed, expected, finished, is_alone, looked_at, owned_until, running_from, seen, seen_apart, step_over, stepped_in, thread_of, threads_behind_row, wait_ended, waits_apart, waits_looked_at, waits_of_last, waits_seen, with_all_waits, with_call_made, with_last, with_outcome, with_owner, with_owner_behind, with_preemption, with_quiet_call, with_reply_at_wake, with_thread};
+ghost use Rattle.ptk_statistics_run.specs.Gathering.{AreMadeBy, AreOwnedUntil, AreSeen, AreWaitsSeen, IsFirst, IsSeen, at_step, at_step_end, begun, behind_row, call_behind_row, call_of_row, changed, expected, finished, is_alone, last_of_row, looked_at, owned_until, running_from, seen, seen_apart, step_over, stepped_in, thread_of, threads_behind_row, wait_ended, waits_apart, waits_looked_at, waits_of_last, waits_seen, with_all_waits, with_call_made, with_last, with_outcome, with_owner, with_owner_behind, with_preemption, with_quiet_call, with_reply_at_wake, with_thread};
 ghost use Rattle.ptk_main_runs.specs.Activities.{activity_in, owner_thread};
 
 use crate::doing::{doing_of, is_preemption, is_running};
@@ -197,6 +197,8 @@ impl Observed {
         requires { p < length system.now.config.sections }
         ensures threads { self.new.threads.items ≡ threads_behind_row (state_of system.now p).part.last (state_of system.now p).part self.old.threads.items }
         ensures others { self.new ≡ record self.old { threads = self.new.threads; last = self.new.last } }
+        ensures call { result ≡ call_of_row (state_of system.now p).part.last (state_of system.now p).part self.old.threads.items }
+        ensures last { self.new.last ≡ last_of_row (state_of system.now p).part.last self.old.threads.items self.old.last }
     {
         let entry = system.last_step(p)?;
         self.look_at_last_step(system, p, &entry)
@@ -215,6 +217,9 @@ impl Observed {
         ensures threads { self.new.threads.items ≡ with_thread entry.now.thread (behind_row entry.now (state_of system.now p).part (number_in entry.now (state_of system.now p).part)) self.old.threads.items }
         ensures others { self.new ≡ record self.old { threads = self.new.threads; last = self.new.last } }
         ensures call { entry.now.thread - 1 < length self.old.threads.items → result ≡ call_behind_row entry.now (state_of system.now p).part }
+        ensures last { entry.now.thread - 1 < length self.old.threads.items → self.new.last ≡ Some entry.now.thread }
+        ensures none { length self.old.threads.items ≤ entry.now.thread - 1 → result ≡ None }
+        ensures kept { length self.old.threads.items ≤ entry.now.thread - 1 → self.new.last ≡ self.old.last }
     {
         let place = entry.thread.place();
         if self.threads.len() <= place {
@@ -238,8 +243,7 @@ impl Observed {
     /// The run ends at a moment.
     pub(crate) fn finish(&mut self, at: Moment)
         ensures threads { AreMadeBy (λ t. finished at) THREAD_LIMIT self.old.threads.items self.new.threads.items }
-        ensures mutexes { let waited = with_all_waits (λ t. wait_ended t at) self.old.threads.items self.old.mutexes.items in
-            AreMadeBy (λ m. owned_until at) (length waited) waited self.new.mutexes.items }
+        ensures mutexes { AreOwnedUntil at self.old.threads.items self.old.mutexes.items self.new.mutexes.items }
         ensures others { self.new ≡ record self.old { threads = self.new.threads; mutexes = self.new.mutexes } }
     {
         finish_all(self.threads.as_mut_slice(), self.mutexes.as_mut_slice(), at);
@@ -417,8 +421,7 @@ fn look_at_thread(
 /// The run ends at a moment.
 fn finish_all(threads: &mut [ThreadStatistics], mutexes: &mut [MutexStatistics], at: Moment)
     ensures threads { AreMadeBy (λ t. finished at) THREAD_LIMIT threads.old threads.new }
-    ensures mutexes { let waited = with_all_waits (λ t. wait_ended t at) threads.old mutexes.old in
-        AreMadeBy (λ m. owned_until at) (length waited) waited mutexes.new }
+    ensures mutexes { AreOwnedUntil at threads.old mutexes.old mutexes.new }
 {
     finish_threads(threads, mutexes, at);
     finish_mutexes(mutexes, at);

@@ -1,11 +1,11 @@
 //! The figures of a partition.
 
-ghost use Rattle.std.specs.Prelude.{◌≡◌, ◌<◌, ◌≤◌, IfOk, MatchBool, length};
+ghost use Rattle.std.specs.Prelude.{◌≡◌, ◌<◌, ◌≤◌, IfOk, MatchBool, Some, length};
 ghost use Rattle.ptk_words.specs.declared.TheConstants.{LAST_TICK};
 ghost use Rattle.ptk_statistics_figures.specs.Counts.{reached};
 ghost use Rattle.ptk_main_runs.specs.World.{state_of};
-ghost use Rattle.ptk_statistics_run.specs.Gathering.{IsFirst, threads_behind_row};
-ghost use Rattle.ptk_statistics_run.specs.Parts.{IsBefore, IsDecided, IsExpected, IsExpectedIfDue, IsFinished, IsKept, IsSeenBy, IsSeenIfDue, is_due_at, threads_behind_rows};
+ghost use Rattle.ptk_statistics_run.specs.Gathering.{IsFirst, call_of_row, last_of_row, threads_behind_row};
+ghost use Rattle.ptk_statistics_run.specs.Parts.{AreOwnersBehind, AreOwnersBehindRows, IsBefore, IsDecided, IsExpected, IsExpectedIfDue, IsFinished, IsKept, IsSeenBy, IsSeenIfDue, is_due_at, last_behind_rows, threads_behind_rows};
 
 use crate::advance::{advance, first_count};
 use crate::due::is_due;
@@ -169,13 +169,16 @@ impl PartStatistics {
         requires kept { IsKept system.now p self.old }
         ensures kept { IsKept system.now p self.new }
         ensures threads { self.new.observed.threads.items ≡ threads_behind_rows system.now p self.old }
+        ensures mutexes { AreOwnersBehindRows system.now p self.old self.new.observed.mutexes.items }
+        ensures last { self.new.observed.last ≡ last_behind_rows system.now p self.old }
+        ensures seen { self.new.seen ≡ (state_of system.now p).account.steps }
     {
         let steps = system.steps(p);
         if steps == self.seen {
             return;
         }
-        self.seen = steps;
         self.look_at_new_row(system, p);
+        self.seen = steps;
     }
 
     /// Looks at the last of the plain steps that the partition made, or at the quiet call behind them.
@@ -186,9 +189,27 @@ impl PartStatistics {
         requires kept { IsKept system.now p self.old }
         ensures kept { IsKept system.now p self.new }
         ensures threads { self.new.observed.threads.items ≡ threads_behind_row (state_of system.now p).part.last (state_of system.now p).part self.old.observed.threads.items }
+        ensures mutexes { AreOwnersBehind system.now p (call_of_row (state_of system.now p).part.last (state_of system.now p).part self.old.observed.threads.items)
+            self.old.observed.mutexes.items self.new.observed.mutexes.items }
+        ensures last { self.new.observed.last ≡ last_of_row (state_of system.now p).part.last self.old.observed.threads.items self.old.observed.last }
     {
-        if let Some(call) = self.observed.look_at_row(system, p) {
-            self.look_at_owners(system, p, call);
+        let call = self.observed.look_at_row(system, p);
+        self.look_behind_call(system, p, &call);
+    }
+
+    /// Looks at the owners of the mutexes behind a call that can give one of them another, if there is one.
+    #[inline(always)]
+    fn look_behind_call(&mut self, system: &System<'_>, p: PartId, call: &Option<OwnerCall>)
+        requires partition { p < length system.now.config.sections }
+        requires early { system.now.tick ≤ LAST_TICK }
+        requires kept { IsKept system.now p self.old }
+        ensures kept { IsKept system.now p self.new }
+        ensures threads { self.new.observed.threads ≡ self.old.observed.threads }
+        ensures mutexes { AreOwnersBehind system.now p call.now self.old.observed.mutexes.items self.new.observed.mutexes.items }
+        ensures last { self.new.observed.last ≡ self.old.observed.last }
+    {
+        if let Some(call) = call {
+            self.look_at_owners(system, p, *call);
         }
     }
 
@@ -200,6 +221,8 @@ impl PartStatistics {
         requires kept { IsKept system.now p self.old }
         ensures kept { IsKept system.now p self.new }
         ensures threads { self.new.observed.threads ≡ self.old.observed.threads }
+        ensures mutexes { AreOwnersBehind system.now p (Some call) self.old.observed.mutexes.items self.new.observed.mutexes.items }
+        ensures last { self.new.observed.last ≡ self.old.observed.last }
     {
         self.count(system, p);
         let own = self.counted.own().saturating_sub(call.cost);

@@ -1,12 +1,12 @@
-use Rattle.std.proofs.Common.{◌≡◌, ℕ, ◌≤◌, List, ap, ap₂, subst, arith}
+use Rattle.std.proofs.Common.{◌≡◌, ℕ, ◌≤◌, ap, ap₂, subst, arith}
 use Rattle.ptk_words.specs.declared.TheConstants.{LAST_TICK, THREAD_LIMIT}
 use Rattle.ptk_words_windows.specs.Windows.{own_ticks}
 use Rattle.ptk_statistics_figures.specs.Counts.{counted_ticks, reached}
 use Rattle.ptk_statistics_figures.specs.declared.moment.Moment.{Moment}
-use Rattle.ptk_statistics_figures.specs.declared.thread.ThreadStatistics.{ThreadStatistics}
 use Rattle.ptk_statistics_figures.proofs.OwnTicks.{own_most}
+use Rattle.ptk_statistics_run.specs.declared.observed.Observed.{Observed}
 use Rattle.ptk_statistics_run.specs.declared.part.PartStatistics.{PartStatistics}
-use Rattle.ptk_statistics_run.specs.Gathering.{AreMadeBy, finished}
+use Rattle.ptk_statistics_run.specs.Gathering.{AreMadeBy, AreOwnedUntil, finished}
 use Rattle.ptk_statistics_run.specs.Parts.{moment_at}
 use Rattle.ptk_statistics_run.proofs.part.PartStatistics.finish.Goals as goal
 
@@ -17,6 +17,11 @@ returns-clause-finished c =
     let own : c.own-own.result ≡ counted_ticks c.count.new.self.counted = c.own-own.ensures few in
     let at : ◌≡◌ {A = Moment} (record { own = c.own-own.result; tick = c.tick-tick.result }) (moment_at (reached c.count.new.self.counted) c.count.new.self.counted) =
     ap₂ {C = Moment} (λ (o : ℕ) (t : ℕ). record { own = o; tick = t }) own c.tick-tick.ensures in
-    subst (λ (moment : Moment). AreMadeBy (λ (t : ℕ). finished moment) THREAD_LIMIT c.args.self.now.observed.threads.items c.finish.new.self.threads.items) at
-    (subst (λ (threads : List ThreadStatistics). AreMadeBy (λ (t : ℕ). finished (record { own = c.own-own.result; tick = c.tick-tick.result })) THREAD_LIMIT threads c.finish.new.self.threads.items)
-    (ap (λ (part : PartStatistics). part.observed.threads.items) c.count.ensures.same) c.finish.ensures.threads)
+    let same = ap (λ (part : PartStatistics). part.observed) c.count.ensures.same in record {
+      threads = subst (λ (moment : Moment). AreMadeBy (λ (t : ℕ). finished moment) THREAD_LIMIT c.args.self.now.observed.threads.items c.finish.new.self.threads.items) at
+          (subst (λ (observed : Observed). AreMadeBy (λ (t : ℕ). finished (record { own = c.own-own.result; tick = c.tick-tick.result })) THREAD_LIMIT observed.threads.items c.finish.new.self.threads.items)
+          same c.finish.ensures.threads);
+      mutexes = subst (λ (moment : Moment). AreOwnedUntil moment c.args.self.now.observed.threads.items c.args.self.now.observed.mutexes.items c.finish.new.self.mutexes.items) at
+          (subst (λ (observed : Observed). AreOwnedUntil (record { own = c.own-own.result; tick = c.tick-tick.result }) observed.threads.items observed.mutexes.items c.finish.new.self.mutexes.items)
+          same c.finish.ensures.mutexes);
+    }
