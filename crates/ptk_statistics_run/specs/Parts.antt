@@ -123,10 +123,14 @@ pub record IsBehindRows (world : World) (p : ℕ) (before after : PartStatistics
   pub last : after.observed.last ≡ last_behind_rows world p before
   pub seen : after.seen ≡ (state_of world p).account.steps
 
--- where the run ends, by all that is counted: what the threads did so far they did until then, and whoever owned a mutex owned it until then (own)
-pub record IsFinished (before after : PartStatistics) : Type 0 where
-  pub threads : AreMadeBy (λ t. finished (moment_at (reached after.counted) after.counted)) THREAD_LIMIT before.observed.threads.items after.observed.threads.items
-  pub mutexes : AreOwnedUntil (moment_at (reached after.counted) after.counted) before.observed.threads.items before.observed.mutexes.items after.observed.mutexes.items
+-- the moment at the system's tick, by the partition's own ticks below it (own)
+abbrev pub moment_now : World → ℕ → Moment
+moment_now world p = record { own = own_below (own_ticks world.config.plan p) world.tick; tick = world.tick }
+
+-- where the run ends, at the system's tick: what the threads did so far they did until then, and whoever owned a mutex owned it until then (own)
+pub record IsFinished (world : World) (p : ℕ) (before after : PartStatistics) : Type 0 where
+  pub threads : AreMadeBy (λ t. finished (moment_now world p)) THREAD_LIMIT before.observed.threads.items after.observed.threads.items
+  pub mutexes : AreOwnedUntil (moment_now world p) before.observed.threads.items before.observed.mutexes.items after.observed.mutexes.items
 
 -- so of each partition, in their order (own)
 abbrev pub AreSeenBy : (Doing → Doing → Bool) → World → Sight → Tick → List PartStatistics → List PartStatistics → Type 0
@@ -138,5 +142,5 @@ abbrev pub AreBehindRows : World → List PartStatistics → List PartStatistics
 AreBehindRows world before after = (p : ℕ) (default : PartStatistics) → p < length before → IsBehindRows world p (slice_index_or before p default) (slice_index_or after p default)
 
 -- where the run ends: so of each partition, in their order (own)
-abbrev pub AreFinished : List PartStatistics → List PartStatistics → Type 0
-AreFinished before after = (p : ℕ) (default : PartStatistics) → p < length before → IsFinished (slice_index_or before p default) (slice_index_or after p default)
+abbrev pub AreFinished : World → List PartStatistics → List PartStatistics → Type 0
+AreFinished world before after = (p : ℕ) (default : PartStatistics) → p < length before → IsFinished world p (slice_index_or before p default) (slice_index_or after p default)

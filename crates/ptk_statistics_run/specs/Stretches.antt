@@ -109,4 +109,4 @@ pub record AreFiguresOf (is_same : Doing → Doing → Bool) (world : World) (to
   pub last : List PartStatistics
   pub begun : AreFirst world first
   pub gathered : AreGathered is_same world to first to last
-  pub finished : AreFinished last statistics.parts.items
+  pub finished : AreFinished (at_tick to world) last statistics.parts.items

@@ -253,7 +253,7 @@ impl PartStatistics {
         requires kept { IsKept system.now p self.old }
         ensures kept { IsKept system.now p self.new }
         ensures tick { reached self.new.counted ≡ system.now.tick }
-        ensures finished { IsFinished self.old self.new }
+        ensures finished { IsFinished system.now p self.old self.new }
     {
         self.count(system, p);
         let own = self.counted.own();

@@ -136,7 +136,7 @@ impl Statistics {
         requires early { system.now.tick ≤ LAST_TICK }
         requires kept { AreKept system.now self.old.parts.items }
         ensures agrees { AgreesWith system.now self.new }
-        ensures finished { AreFinished self.old.parts.items self.new.parts.items }
+        ensures finished { AreFinished system.now self.old.parts.items self.new.parts.items }
     {
         system.states_are_alone();
         finish_all(self.parts.as_mut_slice(), system);
@@ -174,7 +174,7 @@ fn finish_all(parts: &mut [PartStatistics], system: &System<'_>)
     requires kept { AreKept system.now parts.old }
     ensures kept { AreKept system.now parts.new }
     ensures ended { AreEnded system.now (length parts.new) parts.new }
-    ensures finished { AreFinished parts.old parts.new }
+    ensures finished { AreFinished system.now parts.old parts.new }
 {
     for i in 0..parts.len().min(system.parts()) {
         parts[i].finish(system, PartId::new(i as u8));

@@ -5,7 +5,7 @@ use Rattle.ptk_statistics_run.proofs.Parts.{ended_on, kept_on}
 use Rattle.ptk_statistics_run.proofs.statistics.finish_all.Goals as goal
 
 pub loop-i-init : goal.loop-i-init
-loop-i-init c = (c.requires.kept, λ p default below lt. absurd (omega (arith, below)), none_related (λ (p : ℕ). IsFinished) c.args.parts.now)
+loop-i-init c = (c.requires.kept, λ p default below lt. absurd (omega (arith, below)), none_related (IsFinished c.args.system.now) c.args.parts.now)
 
 pub loop-i-preserved : goal.loop-i-preserved
 loop-i-preserved c =
@@ -14,7 +14,7 @@ loop-i-preserved c =
       kept_on c.args.system.now c.loop-i.parts c.loop-i.i c.finish.new.self within c.loop-i.invariant.0
           (subst (λ (p : ℕ). IsKept c.args.system.now p c.finish.new.self) number c.finish.ensures.kept),
       ended_on c.args.system.now c.loop-i.parts c.loop-i.i c.finish.new.self within c.loop-i.invariant.1 c.finish.ensures.tick,
-      one_related (λ (p : ℕ). IsFinished) c.loop-i.i c.new.result c.args.parts.now c.loop-i.parts c.index-parts-i.result c.finish.new.self (omega arith) within number c.loop-i.invariant.2 c.finish.ensures.finished,
+      one_related (IsFinished c.args.system.now) c.loop-i.i c.new.result c.args.parts.now c.loop-i.parts c.index-parts-i.result c.finish.new.self (omega arith) within number c.loop-i.invariant.2 c.finish.ensures.finished,
     )
 
 pub finish-requires-clause-kept : goal.finish-requires-clause-kept

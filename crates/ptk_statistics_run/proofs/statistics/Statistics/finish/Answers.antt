@@ -16,6 +16,6 @@ returns-clause-agrees c =
 pub returns-clause-finished : goal.returns-clause-finished
 returns-clause-finished c =
     let all : c.args.self.now.parts.len ≡ length c.finish_all.new.parts = omega arith in
-    subst (AreFinished c.args.self.now.parts.items)
+    subst (AreFinished c.args.system.now c.args.self.now.parts.items)
     (sym (written c.finish_all.new.parts c.args.self.now.parts.items c.args.self.now.parts.len all))
-    (subst (λ (parts : List PartStatistics). AreFinished parts c.finish_all.new.parts) c.as_mut_slice.ensures.value c.finish_all.ensures.finished)
+    (subst (λ (parts : List PartStatistics). AreFinished c.args.system.now parts c.finish_all.new.parts) c.as_mut_slice.ensures.value c.finish_all.ensures.finished)

@@ -1,5 +1,6 @@
-use Rattle.std.proofs.Common.{ap, arith}
+use Rattle.std.proofs.Common.{ap, subst, arith}
 use Rattle.ptk_main_runs.specs.World.{World}
+use Rattle.ptk_statistics_run.specs.Parts.{AreFinished}
 use Rattle.ptk_statistics_run.proofs.statistics.Statistics.of_run.Goals as goal
 
 pub finish-requires-clause-early : goal.finish-requires-clause-early
@@ -11,5 +12,5 @@ returns-clause-figures c = record {
   last = c.run.new.self.parts.items;
   begun = c.in_ok-parts.ensures.first;
   gathered = c.run.ensures.gathered;
-  finished = c.finish.ensures.finished;
+  finished = subst (λ (world : World). AreFinished world c.run.new.self.parts.items c.finish.new.self.parts.items) c.run.ensures.run c.finish.ensures.finished;
 }
