@@ -5,11 +5,12 @@ use Rattle.ptk_words.specs.Calls.{call_of, cost_of, number_of}
 use Rattle.ptk_words.specs.Words.{word_of}
 use Rattle.ptk_words.specs.declared.TheConstants.{A0, A7, ECALL}
 use Rattle.ptk_words.specs.declared.calls.Call.{Call}
-use Rattle.ptk_words.specs.declared.calls.Call.TheVariants.{Exit, PthreadCreate, PthreadExit, PthreadJoin, PthreadDetach, MutexInit, MutexDestroy, MutexLock, MutexTrylock, MutexTimedlock, MutexUnlock, CondWait, CondTimedwait, CondSignal, CondBroadcast, PthreadCancel}
+use Rattle.ptk_words.specs.declared.calls.Call.TheVariants.{PthreadExit, MutexInit, MutexDestroy, MutexLock, MutexTrylock, MutexTimedlock, MutexUnlock}
 use Rattle.ptk_words.specs.declared.sections.Entry.{Entry}
 use Rattle.ptk_words.specs.declared.threads.Wait.{Wait}
 use Rattle.ptk_words.specs.declared.threads.Wait.TheVariants.{InputWait, SleepWait, JoinWait, MutexWait, ConditionWait, RelockWait}
 use Rattle.ptk_words_model.specs.State.{Part}
+use Rattle.ptk_words_laws.specs.Others.{can_act_on_others}
 use Rattle.ptk_statistics_figures.specs.declared.doing.Doing.{Doing}
 use Rattle.ptk_statistics_figures.specs.declared.doing.Doing.TheVariants as doings
 use Rattle.ptk_statistics_figures.specs.declared.thread.Pending.{Pending}
@@ -70,24 +71,9 @@ pc_behind entry = word_of (entry.pc + WORD)
 abbrev pub is_refused : Entry → Part → Bool
 is_refused entry s = not (entry.a0 == 0) && option_eq nat_eq (pc_in entry.thread s) (Some (pc_behind entry))
 
--- a call that wakes, makes, ends or frees a thread, or halts the partition (own)
-abbrev pub is_shared : Option Call → Bool
-is_shared (Some Exit) = true
-is_shared (Some PthreadCreate) = true
-is_shared (Some PthreadExit) = true
-is_shared (Some PthreadJoin) = true
-is_shared (Some PthreadDetach) = true
-is_shared (Some PthreadCancel) = true
-is_shared (Some MutexUnlock) = true
-is_shared (Some CondWait) = true
-is_shared (Some CondTimedwait) = true
-is_shared (Some CondSignal) = true
-is_shared (Some CondBroadcast) = true
-is_shared other = false
-
 -- a step that is the call of this number, or fetched an instruction that is none, of which no other thread takes notice (own)
 abbrev pub is_apart_by : Option ℕ → Entry → Bool
-is_apart_by (Some number) entry = not (is_shared (call_of number))
+is_apart_by (Some number) entry = not (can_act_on_others (call_of number))
 is_apart_by None entry = not (entry.word == NO_WORD)
 
 -- a step of which no other thread takes notice, of a partition that goes on (own)

@@ -5,7 +5,8 @@ ghost use Rattle.std.specs.Prelude.{◌≡◌, ◌<◌, ◌≤◌, ◌&&◌, len
 ghost use Rattle.ptk_words.specs.Calls.{call_of};
 ghost use Rattle.ptk_words.specs.declared.TheConstants.{LAST_TICK};
 ghost use Rattle.ptk_main_runs.specs.World.{state_of};
-ghost use Rattle.ptk_statistics_run.specs.Observations.{comes_by, has_halted, is_apart, is_late_error, is_owner_call, is_refused, is_reply_error, is_shared, number_in, owner_call, pc_behind, step_at};
+ghost use Rattle.ptk_words_laws.specs.Others.{can_act_on_others};
+ghost use Rattle.ptk_statistics_run.specs.Observations.{comes_by, has_halted, is_apart, is_late_error, is_owner_call, is_refused, is_reply_error, number_in, owner_call, pc_behind, step_at};
 ghost use Rattle.ptk_statistics_run.specs.Gathering.{is_deadline_by, is_disturbed_by, is_input_by, is_preempted_behind, last_behind, step_end, step_ticks, window_end};
 
 use crate::doing::{has_halted, is_ready, is_timed};
@@ -131,7 +132,7 @@ fn comes_by(tick: Option<Tick>, now: Tick) -> bool
 }
 
 /// Whether a step can change what no other thread does but the one that ran before: an instruction of a partition that
-/// goes on, no call that wakes, makes, ends or frees a thread, and no step of a thread's end.
+/// goes on, no call that acts on another thread, and no step of a thread's end.
 pub(crate) fn is_apart(system: &System<'_>, p: PartId, entry: &Entry) -> bool
     requires { p < length system.now.config.sections }
     ensures { result ≡ is_apart entry.now (state_of system.now p).part }
@@ -140,14 +141,14 @@ pub(crate) fn is_apart(system: &System<'_>, p: PartId, entry: &Entry) -> bool
         return false;
     }
     match call_of(system, p, entry) {
-        Some(number) => !is_shared(Call::of_number(number)),
+        Some(number) => !can_act_on_others(Call::of_number(number)),
         None => entry.word != NO_WORD,
     }
 }
 
-/// Whether a call wakes, makes, ends or frees a thread, or halts the partition.
-fn is_shared(call: Option<Call>) -> bool
-    ensures { result ≡ is_shared call }
+/// Whether a call can wake, make, cancel, end or free another thread than its caller, or halts the partition.
+fn can_act_on_others(call: Option<Call>) -> bool
+    ensures { result ≡ can_act_on_others call }
 {
     match call {
         Some(
