@@ -3,6 +3,8 @@ use Rattle.std.specs.Prelude.{◌≡◌, ◌⊎◌, ℕ, ◌+◌, Bool, not, ◌
 use Rattle.std.specs.List.{concat, list_all, suffix_len}
 use Rattle.ptk_asm.specs.declared.fault.AsmFault.{AsmFault}
 use Rattle.ptk_asm_language.specs.Source as definition
+use Rattle.ptk_asm_language.specs.declared.fault.FaultKind.{FaultKind}
+use Rattle.ptk_asm_language.specs.declared.fault.FaultKind.TheVariants as why
 use Rattle.ptk_main_line.specs.declared.requests.AsmOptions.{AsmOptions}
 use Rattle.ptk_main_faults.specs.Lines.{asm_fault}
 use Rattle.ptk_main_faults.specs.declared.fault.Fault.{Fault}
@@ -44,6 +46,20 @@ place_text line column = concat (codes "line " ∷ decimal line ∷ codes ", col
 -- where a source is refused, and what is there (own)
 abbrev pub spot_text : List ℕ → AsmFault → List ℕ
 spot_text source fault = place_text fault.line (column_of source fault.from) ++ piece_text (piece_of source fault.from fault.to)
+
+-- why a source is refused (own)
+abbrev pub reason_words : FaultKind → List ℕ
+reason_words why.Token = codes "wrong token"
+reason_words why.Mnemonic = codes "unknown or misplaced mnemonic"
+reason_words why.Register = codes "unknown register"
+reason_words why.Range = codes "number, distance, offset or section out of range"
+reason_words why.UnknownLabel = codes "unknown label"
+reason_words why.DoubledLabel = codes "doubled label"
+reason_words why.Memory = codes "out of memory"
+
+-- the line that says where a source is refused, what is there, and why (own)
+abbrev pub refusal_line : List ℕ → AsmFault → List ℕ
+refusal_line source fault = spot_text source fault ++ (reason_words fault.kind ++ codes "\n")
 
 -- ---- the faults
 

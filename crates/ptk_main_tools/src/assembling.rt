@@ -7,12 +7,13 @@ ghost use Rattle.ptk_asm_language.specs.Source as definition;
 ghost use Rattle.ptk_main_faults.specs.Lines.{status_of};
 ghost use Rattle.ptk_main_faults.specs.Statuses.{status_number};
 ghost use Rattle.ptk_main_faults.specs.declared.status.ExitStatus.TheVariants.{Done, Refused};
-ghost use Rattle.ptk_main_tools.specs.Sources.{AreMixed, IsAsmFault, IsWriteFault, column_of, is_printable, is_shown, piece_of, piece_text, source_fault, spot_text};
+ghost use Rattle.ptk_main_tools.specs.Sources.{AreMixed, IsAsmFault, IsWriteFault, column_of, is_printable, is_shown, piece_of, piece_text, reason_words, refusal_line, source_fault, spot_text};
 ghost use Rattle.ptk_main_tools.specs.Usage.{IsUsageStatus};
 
 use crate::reading::text_in;
 use crate::telling::{end, tell, usage};
 use ptk_asm::{AsmFault, assemble, label_table};
+use ptk_asm_language::FaultKind;
 use ptk_image::{Image, write_image};
 use ptk_main_faults::Fault;
 use ptk_main_line::{AsmOptions, one_file};
@@ -151,10 +152,27 @@ fn refused(rt: &HostRuntime, text: &str, explain: bool, fault: &AsmFault) -> u8
 
 /// Writes where a source is refused, the column counted in bytes from 1, what is there, and why. An error where
 /// `out` refuses the bytes.
-pub fn put_place<W: Write>(source: &[u8], fault: &AsmFault, out: &mut W) -> io::Result<()> {
+pub fn put_place<W: Write>(source: &[u8], fault: &AsmFault, out: &mut W) -> io::Result<()>
+    ensures { OnOk result (Appends (W.contents out.old) (W.contents out.new) (refusal_line source.now fault.now)) }
+{
     put_spot(source, fault, out)?;
-    let kind = fault.kind;
-    writeln!(out, "{kind}")
+    let reason = reason_of(fault.kind);
+    writeln!(out, "{reason}")
+}
+
+// Why a source is refused: the words that the kind displays.
+fn reason_of(kind: FaultKind) -> &'static str
+    ensures { result.now ≡ reason_words kind }
+{
+    match kind {
+        FaultKind::Token => "wrong token",
+        FaultKind::Mnemonic => "unknown or misplaced mnemonic",
+        FaultKind::Register => "unknown register",
+        FaultKind::Range => "number, distance, offset or section out of range",
+        FaultKind::UnknownLabel => "unknown label",
+        FaultKind::DoubledLabel => "doubled label",
+        FaultKind::Memory => "out of memory",
+    }
 }
 
 // Writes where a source is refused, and what is there. An error where `out` refuses the bytes.

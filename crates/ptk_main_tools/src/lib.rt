@@ -9,7 +9,8 @@
 //! - The files of `images_of` are images of the sections and nothing else; its fault names one that is there.
 //! - `asm` is a usage error where two of its files have the same words. A source is done only where the definition has
 //!   its image, and refused only where it has its fault (`asm_text`).
-//! - The line, the column and the piece of a source that `put_place` writes are the definition's (`put_spot`).
+//! - `put_place` writes the definition's line (`refusal_line`): the line, the column and the piece of a source, and why
+//!   it is refused.
 //! - The text of a disassembly is a source of the image that the file's bytes are, and of bytes that are no image the
 //!   fault is that of the format (`text_of`).
 //! - Which files it reads is tested; which stream gets what is neither proved nor tested.
