@@ -4,15 +4,22 @@ use Rattle.ptk_words.specs.Names.{Byte}
 use Rattle.ptk_explanation_facts.specs.World.{World, at_tick, state_of}
 use Rattle.ptk_explanation.specs.declared.answer.Form.{Form}
 use Rattle.ptk_explanation_facts.specs.declared.history.History.{History}
-use Rattle.ptk_explanation.specs.Explanations.{IsExplanation, IsSaid}
+use Rattle.ptk_explanation.specs.Explanations.{AreOfRun, IsExplanation, IsSaid}
 
-pub explanation_told : (form : Form) (symbols : List (ℕ × List ℕ)) (now world : World) (ticks p : ℕ) (items shown : List History) (empty written : List Byte) → now ≡ at_tick ticks world → shown ≡ items
-    → length items ≡ length (state_of world p).part.locks.threads → empty ≡ [] → (text : List Byte) × IsSaid form symbols now p shown text × (written ≡ empty ++ text)
-    → IsExplanation form symbols world ticks p written
-explanation_told form symbols now world ticks p items shown empty written at same count new told =
+-- of a run that goes on to a tick, where it begins at none
+run_told : (world : World) (to p : ℕ) (histories : List History) → AreOfRun world to p histories → AreOfRun world (max world.tick to) p histories
+run_told world to p histories told = λ begun some.
+    let same : max world.tick to ≡ to = omega (arith, begun) in
+    subst (λ (k : ℕ). AreOfRun world k p histories) (sym same) told begun some
+
+pub explanation_told : (form : Form) (symbols : List (ℕ × List ℕ)) (now world : World) (to p : ℕ) (items shown : List History) (empty written : List Byte) → now ≡ at_tick (max world.tick to) world → shown ≡ items
+    → length items ≡ length (state_of world p).part.locks.threads → AreOfRun world to p items → empty ≡ [] → (text : List Byte) × IsSaid form symbols now p shown text × (written ≡ empty ++ text)
+    → IsExplanation form symbols world (max world.tick to) p written
+explanation_told form symbols now world to p items shown empty written at same count since new told =
     let whole : written ≡ told.0 = told.2 ∙ ap (λ (bytes : List Byte). bytes ++ told.0) new in (
       items,
       count,
+      run_told world to p items since,
       subst (λ (w : World). IsSaid form symbols w p items written) at
           (subst (λ (hs : List History). IsSaid form symbols now p hs written) same (subst (λ (bytes : List Byte). IsSaid form symbols now p shown bytes) (sym whole) told.1)),
     )

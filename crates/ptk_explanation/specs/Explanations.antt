@@ -1,6 +1,8 @@
 -- An explanation in either form.
-use Rattle.std.specs.Prelude.{◌≡◌, ℕ, List, length}
+use Rattle.std.specs.Prelude.{◌≡◌, ℕ, ◌<◌, List, length}
 use Rattle.ptk_words.specs.Names.{Byte}
+use Rattle.ptk_explanation_facts.below.ptk_system.specs.contracts.activity.ActivityPartialEq.TheImpl as activity_eq
+use Rattle.ptk_explanation_facts.specs.Histories.{AreSince}
 use Rattle.ptk_explanation_facts.specs.World.{World, at_tick, state_of}
 use Rattle.ptk_explanation.specs.declared.answer.Form.{Form}
 use Rattle.ptk_explanation.specs.declared.answer.Form.TheVariants as form
@@ -13,7 +15,12 @@ abbrev pub IsSaid : Form → List (ℕ × List ℕ) → World → ℕ → List H
 IsSaid form.Lines symbols world p histories text = AreLines symbols world p histories text
 IsSaid form.Json symbols world p histories text = IsDocument symbols world p histories text
 
--- what is said of a partition of a system after this many ticks, with a history for each number of a thread (own)
+-- over the first ticks of a run, this many and one at least, each history says since when the thread of its number does what it does (own)
+abbrev pub AreOfRun : World → ℕ → ℕ → List History → Type 0
+AreOfRun world ticks p histories = world.tick ≡ 0 → 0 < ticks → AreSince (activity_eq.ghosts).eq world p ticks histories
+
+-- what is said of a partition of a system after this many ticks, with a history of the run for each number of a thread (own)
 abbrev pub IsExplanation : Form → List (ℕ × List ℕ) → World → ℕ → ℕ → List Byte → Type 0
 IsExplanation form symbols world ticks p text =
-    (histories : List History) × (length histories ≡ length (state_of world p).part.locks.threads) × IsSaid form symbols (at_tick ticks world) p histories text
+    (histories : List History) × (length histories ≡ length (state_of world p).part.locks.threads) × AreOfRun world ticks p histories
+    × IsSaid form symbols (at_tick ticks world) p histories text
