@@ -1,6 +1,5 @@
--- The status of a fault, and of an outcome that is done.
-use Rattle.std.proofs.Common.{◌≡◌, ◌∙◌, ℕ, Result, Ok, Err, sym, arith}
-use Rattle.std.specs.Prelude.{IfErr, OnOk}
+-- The status of a fault is not that of an outcome that is done.
+use Rattle.std.proofs.Common.{◌≡◌, ◌∙◌, ℕ, sym, arith}
 use Rattle.ptk_main_faults.specs.Lines.{status_of}
 use Rattle.ptk_main_faults.specs.Statuses.{status_number}
 use Rattle.ptk_main_faults.specs.declared.fault.Fault.{Fault}
@@ -14,8 +13,3 @@ no_fault_is_done other e = omega (arith, e)
 -- a fault is not done
 pub never_done : (fault : Fault) (status : ℕ) → status ≡ status_number (status_of fault) → status ≡ status_number Done → ⊥
 never_done fault status is done = no_fault_is_done fault (sym is ∙ done)
-
--- what holds of a good outcome holds where the status says that it is done
-pub done_if_ok : (P : Type 0) (outcome : Result (Unit {0}) Fault) (status : ℕ) → OnOk outcome P → IfErr outcome (λ fault. status ≡ status_number (status_of fault)) → status ≡ status_number Done → P
-done_if_ok P (Ok u) status holds failed done = holds
-done_if_ok P (Err fault) status holds failed done = absurd (never_done fault status failed done)
