@@ -1,5 +1,5 @@
 -- What follows of an outcome with the images that were read.
-use Rattle.std.proofs.Common.{◌≡◌, ◌≢◌, ◌∙◌, ℕ, Bool, List, Option, None, Result, Ok, Err, ◌⊎◌, sym, ap, refl, subst, inl, inr}
+use Rattle.std.proofs.Common.{◌≡◌, ◌≢◌, ◌∙◌, ℕ, List, Option, None, Result, Ok, Err, ◌⊎◌, sym, ap, refl, subst, inl, inr}
 use Rattle.std.specs.Prelude.{◌↔◌, IfErr, IfOk, IsOkAnd, IsSomeAnd, MatchResult, OnOk, Some, is_some}
 use Rattle.std.specs.Borrow.{Bor}
 use Rattle.std.specs.Io.KnownBytes.{Appends}
@@ -20,7 +20,6 @@ use Rattle.ptk_main_faults.specs.declared.status.ExitStatus.TheVariants.{Differe
 use Rattle.ptk_main_tools.specs.NamedFiles.{NamedFile}
 use Rattle.ptk_main_tools.specs.Reading.{AreImagesOf, IsConfigFault}
 use Rattle.ptk_main_runs.specs.World.{World, world_at}
-use Rattle.ptk_main_answers.specs.Answers.{trace_of}
 use Rattle.ptk_main_answers.specs.Expectations.{IsFailed, IsFirstDifference, IsPassed, IsReport}
 use Rattle.ptk_main_answers.specs.HostFaults.{IsHostFault}
 use Rattle.ptk_main_answers.specs.Refusals.{IsFaultOf, missing_image}
@@ -33,7 +32,7 @@ use Rattle.ptk_impact_answers.specs.SameRuns.{AreSameRuns}
 use Rattle.ptk_impact_answers.specs.Written.{PutsAnswer}
 use Rattle.ptk_impact_answers.specs.declared.release.Release.{Release}
 use Rattle.ptk_impact_answers.specs.declared.tally.Tally.{Tally}
-use Rattle.ptk_main_files.specs.Outcomes.{IsAccepted, IsComparison, IsCountFault, IsRefused, IsRunFault, IsRunFaultWith, IsRunOf, IsTraceFault, IsTraceOf, IsTraced, IsUnexpected, IsUnsaid, PutsCheck, PutsTrace, WithImages, WithReleases, partition_refusal, question_of, run_question}
+use Rattle.ptk_main_files.specs.Outcomes.{IsAccepted, IsComparison, IsCountFault, IsRefused, IsRunFault, IsRunFaultWith, IsRunOf, IsTraceFault, IsTraceOf, IsTraced, IsUnexpected, IsUnsaid, PutsTrace, WithImages, WithReleases, partition_refusal, question_of, run_question}
 use Rattle.ptk_main_files.specs.Statuses.{IsCheckStatus, IsEndStatus, IsImpactStatus, IsRunStatus, IsTraceStatus}
 use Rattle.ptk_main_files.specs.Traces.{as_traced}
 
@@ -48,11 +47,6 @@ ended P Q (Err fault) status holds failed done is = inr (fault, failed, is)
 pub done_by : (P : Type 0) (Q : Fault → Type 0) (outcome : Result (Unit {0}) Fault) → MatchResult outcome (λ _. P) Q → OnOk outcome P
 done_by P Q (Ok u) is = is
 done_by P Q (Err fault) is = tt
-
--- a bad one
-pub fault_by : (P : Type 0) (Q : Fault → Type 0) (outcome : Result (Unit {0}) Fault) → MatchResult outcome (λ _. P) Q → IfErr outcome Q
-fault_by P Q (Ok u) is = tt
-fault_by P Q (Err fault) is = is
 
 -- what holds anyway
 pub on_any : (P : Type 0) (outcome : Result (Unit {0}) Fault) → P → OnOk outcome P
@@ -148,13 +142,6 @@ run_ended options config outcome status old new passed failed done is =
 
 -- ---- a trace
 
--- the ticks are those that are asked for
-pub traced_at : (options : TraceOptions) (config : Configuration) (files : List NamedFile) (outcome : Result (Unit {0}) Fault) (ticks : ℕ) (place : Option ℕ) (old new : Option (List ℕ))
-    → ticks ≡ options.run.ticks → OnOk outcome (Appends old new (trace_of place (world_at config files ticks)))
-    → OnOk outcome (Appends old new (trace_of place (world_at config files options.run.ticks)))
-traced_at options config files outcome ticks place old new is written =
-    subst (λ (t : ℕ). OnOk outcome (Appends old new (trace_of place (world_at config files t)))) is written
-
 -- a good outcome
 pub traced_by : (options : TraceOptions) (config : Configuration) (outcome : Result (Unit {0}) Fault) (files : List NamedFile) (old new : Option (List ℕ)) → AreImagesOf config.sections files
     → OnOk outcome (partition_refusal options.partition.now config files ≡ None) → OnOk outcome (PutsTrace options config files old new)
@@ -171,11 +158,6 @@ trace_ended options config kept outcome status old new same traced failed done i
     (ended (IsTraced options kept) (IsTraceFault options kept) outcome status (on_ok_weaker outcome (λ images. (images.0, images.1, images.2.known)) traced) failed done is)
 
 -- ---- a check
-
--- what is said on request, or is not
-pub puts_check : (asked shown : Bool) (bytes : List ℕ) (files : List NamedFile) (old new : Option (List ℕ)) (outcome : Result (Unit {0}) Fault) → asked ≡ shown
-    → OnOk outcome (PutsCheck shown bytes files old new) → OnOk outcome (PutsCheck asked bytes files old new)
-puts_check asked shown bytes files old new outcome is puts = subst (λ (b : Bool). OnOk outcome (PutsCheck b bytes files old new)) (sym is) puts
 
 -- the status of a text that is refused
 pub check_refused : (bytes : List ℕ) (fault said : Fault) (status : ℕ) → IsConfigFault bytes fault → (said ≡ fault) ⊎ IsUnsaid said → status ≡ status_number (status_of said) → IsCheckStatus bytes status
