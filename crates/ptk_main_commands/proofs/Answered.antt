@@ -1,9 +1,11 @@
 -- What the requests of this crate write, by the form and the ticks that are asked for.
-use Rattle.std.proofs.Common.{◌≡◌, ◌∙◌, ℕ, List, Option, None, Result, Ok, Err, ap, subst}
+use Rattle.std.proofs.Common.{◌≡◌, ℕ, List, Option, None, Result, Ok, Err, refl, subst}
+use Rattle.std.specs.Borrow.{Bor}
 use Rattle.std.specs.Prelude.{MatchResult, OnOk}
 use Rattle.ptk_symbols.specs.Tables.{table_of}
 use Rattle.ptk_config.specs.Configuration.{Configuration}
 use Rattle.ptk_statistics.specs.Answered.{PutsRun}
+use Rattle.ptk_statistics.specs.Tables.{PutsTables}
 use Rattle.ptk_statistics.specs.declared.answer.Form.{Form as Figures}
 use Rattle.ptk_statistics.specs.declared.answer.Form.TheVariants as figures
 use Rattle.ptk_main_line.specs.declared.requests.ExplainOptions.{ExplainOptions}
@@ -14,17 +16,30 @@ use Rattle.ptk_main_files.specs.NamedFiles.{NamedFile}
 use Rattle.ptk_main_files.specs.Outcomes.{WithImages, partition_refusal}
 use Rattle.ptk_main_files.specs.Reading.{AreImagesOf}
 use Rattle.ptk_main_files.specs.Refusals.{IsFaultOf}
-use Rattle.ptk_main_files.specs.World.{world_at}
-use Rattle.ptk_main_commands.specs.Answered.{IsExplanationOf, IsStatsOf, PutsStanding, figures_in}
+use Rattle.ptk_main_files.specs.World.{World, world_at}
+use Rattle.ptk_main_commands.specs.Answered.{IsExplanationOf, IsStatsOf, PutsFigures, PutsStanding, figures_in}
 use Rattle.ptk_main_commands.specs.Refusals.{stats_refusal}
 
--- a good outcome of figures in the form of the answer
+-- figures in a form, by what is written in each
+pub figures_by : (shown : Figures) (world : World) (asked : Option (Bor (List ℕ))) (old new : Option (List ℕ)) → (shown ≡ figures.Json → PutsRun world asked old new) → (shown ≡ figures.Tables → PutsTables world asked old new)
+    → PutsFigures shown world asked old new
+figures_by figures.Tables world asked old new json tables = tables refl
+figures_by figures.Json world asked old new json tables = json refl
+
+-- a good outcome of figures in the form that is asked for
 pub stats_by : {T : Type 0} (options : StatsOptions) (config : Configuration) (outcome : Result T Fault) (files : List NamedFile) (ticks : ℕ) (shown : Figures) (old new : Option (List ℕ)) → AreImagesOf config.sections files → ticks ≡ options.run.ticks → shown ≡ figures_in options.format
     → MatchResult outcome (λ _. stats_refusal options.partition config files ≡ None) (IsFaultOf (stats_refusal options.partition config files) (stats_refusal options.partition config files))
-    → OnOk outcome (shown ≡ figures.Json → PutsRun (world_at config files ticks) options.partition old new) → OnOk outcome (WithImages config.sections (IsStatsOf options config old new))
-stats_by options config (Ok u) files ticks shown old new images same form_is is json =
-    (files, images, record { accepted = is; json = λ e. subst (λ (t : ℕ). PutsRun (world_at config files t) options.partition old new) same (json (form_is ∙ ap figures_in e)) })
-stats_by options config (Err fault) files ticks shown old new images same form_is is json = tt
+    → OnOk outcome (PutsFigures shown (world_at config files ticks) options.partition old new) → OnOk outcome (WithImages config.sections (IsStatsOf options config old new))
+stats_by options config (Ok u) files ticks shown old new images same form_is is written = (
+  files,
+  images,
+  record {
+    accepted = is;
+    written = subst (λ (f : Figures). PutsFigures f (world_at config files options.run.ticks) options.partition old new) form_is
+        (subst (λ (t : ℕ). PutsFigures shown (world_at config files t) options.partition old new) same written);
+  },
+)
+stats_by options config (Err fault) files ticks shown old new images same form_is is written = tt
 
 -- and of how a partition stands
 pub explanation_by : {T : Type 0} (options : ExplainOptions) (config : Configuration) (outcome : Result T Fault) (files : List NamedFile) (ticks : ℕ) (bytes : List ℕ) (symbols : List (ℕ × List ℕ)) (old new : Option (List ℕ))

@@ -1,9 +1,11 @@
 -- What the requests of this crate write of a configuration and the images that were read of it.
 use Rattle.std.specs.Prelude.{◌≡◌, ℕ, List, Option, Some, None, Ok}
+use Rattle.std.specs.Borrow.{Bor}
 use Rattle.std.specs.Io.KnownBytes.{Appends}
 use Rattle.ptk_symbols.specs.Tables.{table_of}
 use Rattle.ptk_config.specs.Configuration.{Configuration}
 use Rattle.ptk_statistics.specs.Answered.{PutsRun}
+use Rattle.ptk_statistics.specs.Tables.{PutsTables}
 use Rattle.ptk_statistics.specs.declared.answer.Form.{Form as Figures}
 use Rattle.ptk_statistics.specs.declared.answer.Form.TheVariants as figures
 use Rattle.ptk_explanation.specs.Explanations.{IsExplanation}
@@ -16,7 +18,7 @@ use Rattle.ptk_main_line.specs.declared.requests.StatsOptions.{StatsOptions}
 use Rattle.ptk_main_files.specs.NamedFiles.{NamedFile}
 use Rattle.ptk_main_files.specs.Outcomes.{partition_refusal}
 use Rattle.ptk_main_files.specs.Parts.{part_named}
-use Rattle.ptk_main_files.specs.World.{world_at}
+use Rattle.ptk_main_files.specs.World.{World, world_at}
 use Rattle.ptk_main_commands.specs.Refusals.{stats_refusal}
 
 -- ---- figures
@@ -26,10 +28,15 @@ abbrev pub figures_in : Format → Figures
 figures_in form.Text = figures.Tables
 figures_in form.Json = figures.Json
 
--- with these images nothing is refused, and as JSON the figures of a run to the tick that is asked for are written (own)
+-- the figures of a run to the system's tick are written in a form (own)
+abbrev pub PutsFigures : Figures → World → Option (Bor (List ℕ)) → Option (List ℕ) → Option (List ℕ) → Type 0
+PutsFigures figures.Tables world asked old new = PutsTables world asked old new
+PutsFigures figures.Json world asked old new = PutsRun world asked old new
+
+-- with these images nothing is refused, and the figures of a run to the tick that is asked for are written in the form that is asked for (own)
 pub record IsStatsOf (options : StatsOptions) (config : Configuration) (old new : Option (List ℕ)) (files : List NamedFile) : Type 0 where
   pub accepted : stats_refusal options.partition config files ≡ None
-  pub json : options.format ≡ form.Json → PutsRun (world_at config files options.run.ticks) options.partition old new
+  pub written : PutsFigures (figures_in options.format) (world_at config files options.run.ticks) options.partition old new
 
 -- ---- how a partition stands
 

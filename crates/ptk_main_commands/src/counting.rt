@@ -3,12 +3,11 @@
 ghost use Rattle.std.specs.Prelude.{◌≡◌, ◌≤◌, None, Some, IfErr, MatchResult, OnOk};
 ghost use Rattle.std.specs.Option.{option_map_or};
 ghost use Rattle.ptk_words.specs.declared.TheConstants.{LAST_TICK};
-ghost use Rattle.ptk_statistics.specs.Answered.{PutsRun};
 ghost use Rattle.ptk_main_files.specs.Outcomes.{IsRefused, WithImages};
 ghost use Rattle.ptk_main_files.specs.Parts.{part_named};
 ghost use Rattle.ptk_main_files.specs.Refusals.{IsFaultOf, missing_image, refused_trace};
 ghost use Rattle.ptk_main_files.specs.World.{world_at};
-ghost use Rattle.ptk_main_commands.specs.Answered.{IsStatsOf, figures_in};
+ghost use Rattle.ptk_main_commands.specs.Answered.{IsStatsOf, PutsFigures, figures_in};
 ghost use Rattle.ptk_main_commands.specs.Refusals.{stats_refusal};
 ghost use Rattle.ptk_main_commands.specs.Statuses.{IsStatsEnd};
 
@@ -57,7 +56,7 @@ fn stats_config<'a, W: Write>(
     )
 }
 
-// Writes the figures of a run, of all partitions or of the one of this name. Which lines these are is tested.
+// Writes the figures of a run in a form, of all partitions or of the one of this name.
 fn stats_answer<'a, W: Write>(
     alloc: Global,
     config: &'a Config,
@@ -71,8 +70,7 @@ fn stats_answer<'a, W: Write>(
     ensures refused { let refusal = option_map_or (λ word. refused_trace (part_named config.now word.now) config.now files.now word.now)
         name.entry (missing_image config.now files.now) in
         MatchResult result (λ _. refusal ≡ None) (IsFaultOf refusal refusal) }
-    ensures json { OnOk result (form ≡ Form.Json →
-        PutsRun (world_at config.now files.now ticks) name.entry (W.contents out.old) (W.contents out.new)) }
+    ensures written { OnOk result (PutsFigures form (world_at config.now files.now ticks) name.entry (W.contents out.old) (W.contents out.new)) }
 {
     match name {
         Some(name) => stats_of_one(alloc, config, files, ticks, name, form, out),
@@ -90,7 +88,7 @@ fn figures_in(format: Format) -> Form
     }
 }
 
-// Writes the figures of the partition of this name.
+// Writes the figures of the partition of this name in a form.
 fn stats_of_one<'a, W: Write>(
     alloc: Global,
     config: &'a Config,
@@ -103,8 +101,7 @@ fn stats_of_one<'a, W: Write>(
     requires { ticks ≤ LAST_TICK }
     ensures refused { let refusal = refused_trace (part_named config.now name.now) config.now files.now name.now in
         MatchResult result (λ _. refusal ≡ None) (IsFaultOf refusal refusal) }
-    ensures json { OnOk result (form ≡ Form.Json →
-        PutsRun (world_at config.now files.now ticks) (Some name.entry) (W.contents out.old) (W.contents out.new)) }
+    ensures written { OnOk result (PutsFigures form (world_at config.now files.now ticks) (Some name.entry) (W.contents out.old) (W.contents out.new)) }
 {
     match stats_with(alloc, config, files, ticks, Some(name), form, out) {
         Ok(()) => Ok(()),
@@ -112,7 +109,7 @@ fn stats_of_one<'a, W: Write>(
     }
 }
 
-// Writes the figures of all partitions.
+// Writes the figures of all partitions in a form.
 fn stats_of_all<'a, W: Write>(
     alloc: Global,
     config: &'a Config,
@@ -124,8 +121,7 @@ fn stats_of_all<'a, W: Write>(
     requires { ticks ≤ LAST_TICK }
     ensures refused { let refusal = missing_image config.now files.now in
         MatchResult result (λ _. refusal ≡ None) (IsFaultOf refusal refusal) }
-    ensures json { OnOk result (form ≡ Form.Json →
-        PutsRun (world_at config.now files.now ticks) None (W.contents out.old) (W.contents out.new)) }
+    ensures written { OnOk result (PutsFigures form (world_at config.now files.now ticks) None (W.contents out.old) (W.contents out.new)) }
 {
     match stats_with(alloc, config, files, ticks, None, form, out) {
         Ok(()) => Ok(()),

@@ -1,20 +1,19 @@
-use Rattle.std.proofs.Common.{◌≡◌, List, ℕ, Option, Bor, subst, sym}
+use Rattle.std.proofs.Common.{List, ℕ, Option, Bor, subst, sym}
 use Rattle.std.specs.Prelude.{OnOk}
-use Rattle.ptk_statistics.specs.Answered.{PutsRun}
-use Rattle.ptk_statistics.specs.declared.answer.Form.TheVariants.{Json}
 use Rattle.ptk_main_files.specs.World.{world_at}
+use Rattle.ptk_main_commands.specs.Answered.{PutsFigures}
 use Rattle.ptk_main_commands.proofs.counting.stats_answer.Goals as goal
 
-pub returns-in-Some-clause-json : goal.returns-in-Some-clause-json
-returns-in-Some-clause-json g c =
+pub returns-in-Some-clause-written : goal.returns-in-Some-clause-written
+returns-in-Some-clause-written g c =
     subst
-    (λ (name : Option (Bor (List ℕ))). OnOk c.stats_of_one.result (c.args.form ≡ Json
-    → PutsRun (world_at c.args.config.now c.args.files.now c.args.ticks) name (g.W.Write.contents c.args.out.now) (g.W.Write.contents c.stats_of_one.new.out)))
-    (sym c.in-Some.is) c.stats_of_one.ensures.json
+    (λ (name : Option (Bor (List ℕ))). OnOk c.stats_of_one.result
+    (PutsFigures c.args.form (world_at c.args.config.now c.args.files.now c.args.ticks) name (g.W.Write.contents c.args.out.now) (g.W.Write.contents c.stats_of_one.new.out)))
+    (sym c.in-Some.is) c.stats_of_one.ensures.written
 
-pub returns-in-None-clause-json : goal.returns-in-None-clause-json
-returns-in-None-clause-json g c =
+pub returns-in-None-clause-written : goal.returns-in-None-clause-written
+returns-in-None-clause-written g c =
     subst
-    (λ (name : Option (Bor (List ℕ))). OnOk c.stats_of_all.result (c.args.form ≡ Json
-    → PutsRun (world_at c.args.config.now c.args.files.now c.args.ticks) name (g.W.Write.contents c.args.out.now) (g.W.Write.contents c.stats_of_all.new.out)))
-    (sym c.in-None.is) c.stats_of_all.ensures.json
+    (λ (name : Option (Bor (List ℕ))). OnOk c.stats_of_all.result
+    (PutsFigures c.args.form (world_at c.args.config.now c.args.files.now c.args.ticks) name (g.W.Write.contents c.args.out.now) (g.W.Write.contents c.stats_of_all.new.out)))
+    (sym c.in-None.is) c.stats_of_all.ensures.written
