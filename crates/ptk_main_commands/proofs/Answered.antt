@@ -8,8 +8,9 @@ use Rattle.ptk_statistics.specs.Answered.{PutsRun}
 use Rattle.ptk_statistics.specs.Tables.{PutsTables}
 use Rattle.ptk_statistics.specs.declared.answer.Form.{Form as Figures}
 use Rattle.ptk_statistics.specs.declared.answer.Form.TheVariants as figures
+use Rattle.ptk_explanation.specs.declared.answer.Form.{Form as Standing}
+use Rattle.ptk_explanation.specs.declared.answer.Form.TheVariants as standing
 use Rattle.ptk_main_line.specs.declared.requests.ExplainOptions.{ExplainOptions}
-use Rattle.ptk_main_line.specs.declared.requests.Format.TheVariants as form
 use Rattle.ptk_main_line.specs.declared.requests.StatsOptions.{StatsOptions}
 use Rattle.ptk_main_faults.specs.declared.fault.Fault.{Fault}
 use Rattle.ptk_main_files.specs.NamedFiles.{NamedFile}
@@ -17,7 +18,7 @@ use Rattle.ptk_main_files.specs.Outcomes.{WithImages, partition_refusal}
 use Rattle.ptk_main_files.specs.Reading.{AreImagesOf}
 use Rattle.ptk_main_files.specs.Refusals.{IsFaultOf}
 use Rattle.ptk_main_files.specs.World.{World, world_at}
-use Rattle.ptk_main_commands.specs.Answered.{IsExplanationOf, IsStatsOf, PutsFigures, PutsStanding, figures_in}
+use Rattle.ptk_main_commands.specs.Answered.{IsExplanationOf, IsStatsOf, PutsFigures, PutsStanding, figures_in, standing_in}
 use Rattle.ptk_main_commands.specs.Refusals.{stats_refusal}
 
 -- figures in a form, by what is written in each
@@ -41,12 +42,19 @@ stats_by options config (Ok u) files ticks shown old new images same form_is is 
 )
 stats_by options config (Err fault) files ticks shown old new images same form_is is written = tt
 
--- and of how a partition stands
+-- how a partition stands in a form, by what is written in each
+pub standing_by : (shown : Standing) (symbols : List (ℕ × List ℕ)) (config : Configuration) (files : List NamedFile) (ticks : ℕ) (name : List ℕ) (old new : Option (List ℕ))
+    → (shown ≡ standing.Json → PutsStanding standing.Json symbols config files ticks name old new)
+    → (shown ≡ standing.Lines → PutsStanding standing.Lines symbols config files ticks name old new) → PutsStanding shown symbols config files ticks name old new
+standing_by standing.Lines symbols config files ticks name old new json lines = lines refl
+standing_by standing.Json symbols config files ticks name old new json lines = json refl
+
+-- a good outcome of how a partition stands in the form that is asked for
 pub explanation_by : {T : Type 0} (options : ExplainOptions) (config : Configuration) (outcome : Result T Fault) (files : List NamedFile) (ticks : ℕ) (bytes : List ℕ) (symbols : List (ℕ × List ℕ)) (old new : Option (List ℕ))
     → AreImagesOf config.sections files → table_of bytes ≡ Ok symbols → ticks ≡ options.run.ticks
     → MatchResult outcome (λ _. partition_refusal options.partition.now config files ≡ None) (IsFaultOf (partition_refusal options.partition.now config files) (partition_refusal options.partition.now config files))
-    → OnOk outcome (options.format ≡ form.Json → PutsStanding symbols config files ticks options.partition.now old new) → OnOk outcome (WithImages config.sections (IsExplanationOf options config old new))
-explanation_by options config (Ok u) files ticks bytes symbols old new images table same is json = (
+    → OnOk outcome (PutsStanding (standing_in options.format) symbols config files ticks options.partition.now old new) → OnOk outcome (WithImages config.sections (IsExplanationOf options config old new))
+explanation_by options config (Ok u) files ticks bytes symbols old new images table same is written = (
   files,
   images,
   record {
@@ -54,7 +62,7 @@ explanation_by options config (Ok u) files ticks bytes symbols old new images ta
     bytes = bytes;
     symbols = symbols;
     table = table;
-    json = λ e. subst (λ (t : ℕ). PutsStanding symbols config files t options.partition.now old new) same (json e);
+    written = subst (λ (t : ℕ). PutsStanding (standing_in options.format) symbols config files t options.partition.now old new) same written;
   },
 )
-explanation_by options config (Err fault) files ticks bytes symbols old new images table same is json = tt
+explanation_by options config (Err fault) files ticks bytes symbols old new images table same is written = tt

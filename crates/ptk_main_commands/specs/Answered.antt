@@ -45,15 +45,15 @@ abbrev pub standing_in : Format → Standing
 standing_in form.Text = standing.Lines
 standing_in form.Json = standing.Json
 
--- the object of the partition of this name after this many ticks is written (own)
-abbrev pub PutsStanding : List (ℕ × List ℕ) → Configuration → List NamedFile → ℕ → List ℕ → Option (List ℕ) → Option (List ℕ) → Type 0
-PutsStanding symbols config files ticks name old new =
-    (p : ℕ) × (part_named config name ≡ Some p) × (text : List ℕ) × IsExplanation standing.Json symbols (world_at config files 0) ticks p text × Appends old new text
+-- what is said in a form of the partition of this name after this many ticks is written (own)
+abbrev pub PutsStanding : Standing → List (ℕ × List ℕ) → Configuration → List NamedFile → ℕ → List ℕ → Option (List ℕ) → Option (List ℕ) → Type 0
+PutsStanding shown symbols config files ticks name old new =
+    (p : ℕ) × (part_named config name ≡ Some p) × (text : List ℕ) × IsExplanation shown symbols (world_at config files 0) ticks p text × Appends old new text
 
--- with these images nothing is refused, and as JSON how the partition stands is written, with the symbols of a text (own)
+-- with these images nothing is refused, and how the partition stands is written in the form that is asked for, with the symbols of a text (own)
 pub record IsExplanationOf (options : ExplainOptions) (config : Configuration) (old new : Option (List ℕ)) (files : List NamedFile) : Type 0 where
   pub accepted : partition_refusal options.partition.now config files ≡ None
   pub bytes : List ℕ
   pub symbols : List (ℕ × List ℕ)
   pub table : table_of bytes ≡ Ok symbols
-  pub json : options.format ≡ form.Json → PutsStanding symbols config files options.run.ticks options.partition.now old new
+  pub written : PutsStanding (standing_in options.format) symbols config files options.run.ticks options.partition.now old new

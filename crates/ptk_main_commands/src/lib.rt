@@ -10,8 +10,8 @@
 //! - The status of a request is that of its own command, by what came of it (`obey`).
 //! - `stats`, `timeline` and `explain` are done only where, for some files that are images of the sections and nothing
 //!   else, nothing is refused; a fault is of a file that is not read, by its name, or the refusal for such files.
-//! - `stats_config` writes the figures of the run that is asked for, as text or as JSON; `explain_config` writes as JSON
-//!   how the partition stands. `timeline_answer` promises its refusals alone.
+//! - `stats_config` and `explain_config` write the figures and how the partition stands, of the run that is asked for,
+//!   as text or as JSON. `timeline_answer` promises its refusals alone.
 //! - Which files it reads is tested; that the writer is standard output is neither proved nor tested.
 //!
 //! Below are the other requests (`ptk_main_files`), and what this crate alone joins: the pictures (`ptk_timeline`,

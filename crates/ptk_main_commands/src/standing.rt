@@ -59,7 +59,7 @@ fn explain_config<'a, W: Write>(
     )
 }
 
-// Writes how the partition of this name stands after a run. Which lines these are is tested.
+// Writes how the partition of this name stands after a run.
 fn standing_answer<'a, W: Write>(
     alloc: Global,
     config: &'a Config,
@@ -73,8 +73,7 @@ fn standing_answer<'a, W: Write>(
     requires { ticks ≤ LAST_TICK }
     ensures refused { let refusal = refused_trace (part_named config.now name.now) config.now files.now name.now in
         MatchResult result (λ _. refusal ≡ None) (IsFaultOf refusal refusal) }
-    ensures json { OnOk result (format ≡ Format.Json →
-        PutsStanding symbols.now config.now files.now ticks name.now (W.contents out.old) (W.contents out.new)) }
+    ensures written { OnOk result (PutsStanding (standing_in format) symbols.now config.now files.now ticks name.now (W.contents out.old) (W.contents out.new)) }
 {
     let form = standing_in(format);
     match explain_partition_with(alloc, config, files, ticks, name, symbols, form, out) {
