@@ -1,9 +1,13 @@
 -- What the requests of this crate write of a configuration and the images that were read of it.
-use Rattle.std.specs.Prelude.{◌≡◌, ℕ, List, Option, Some, None, Ok}
+use Rattle.std.specs.Prelude.{◌≡◌, ◌<◌, ◌≤◌, ℕ, List, Option, Some, None, Ok, length, option_and_then}
 use Rattle.std.specs.Borrow.{Bor}
 use Rattle.std.specs.Io.KnownBytes.{Appends}
-use Rattle.ptk_symbols.specs.Tables.{table_of}
+use Rattle.ptk_words.specs.declared.TheConstants.{THREAD_LIMIT}
+use Rattle.ptk_symbols.specs.Tables.{exact, table_of}
 use Rattle.ptk_config.specs.Configuration.{Configuration}
+use Rattle.ptk_timeline.specs.Starts.{routine_of, seen_to}
+use Rattle.ptk_timeline.below.ptk_timeline_starts.specs.declared.starts.Names.{Names}
+use Rattle.ptk_timeline.specs.Picture.{IsPictureOf}
 use Rattle.ptk_statistics.specs.Answered.{PutsRun}
 use Rattle.ptk_statistics.specs.Tables.{PutsTables}
 use Rattle.ptk_statistics.specs.declared.answer.Form.{Form as Figures}
@@ -57,3 +61,20 @@ pub record IsExplanationOf (options : ExplainOptions) (config : Configuration) (
   pub symbols : List (ℕ × List ℕ)
   pub table : table_of bytes ≡ Ok symbols
   pub written : PutsStanding (standing_in options.format) symbols config files options.run.ticks options.partition.now old new
+
+-- ---- a picture
+
+-- the name of the symbol that begins where the last thread of a number of a partition starts, in the run of a world to a tick; None where none does (nm)
+abbrev pub started_routine : List (ℕ × List ℕ) → World → ℕ → ℕ → ℕ → Option (List ℕ × ℕ)
+started_routine symbols world to p number = option_and_then (exact symbols) (seen_to world p number to).start
+
+-- each number of a thread has the name of the routine where the last thread that had it starts, in the run of a world to a tick (own)
+abbrev pub AreRoutines : List (ℕ × List ℕ) → World → ℕ → (ℕ → ℕ → Option (List ℕ × ℕ)) → Type 0
+AreRoutines symbols world to routine =
+    (p number : ℕ) → p < length world.config.sections → 0 < number → number ≤ THREAD_LIMIT → routine p number ≡ started_routine symbols world to p number
+
+-- the picture of a run from a tick on and before another is written, with the names of the routines where its threads start (own)
+abbrev pub PutsPicture : List (ℕ × List ℕ) → Configuration → List NamedFile → ℕ → ℕ → Option (List ℕ) → Option (List ℕ) → Type 0
+PutsPicture symbols config files from to old new =
+    (names : Names) × AreRoutines symbols (world_at config files 0) to (routine_of names)
+    × (text : List ℕ) × IsPictureOf config (world_at config files 0) names from to text × Appends old new text

@@ -1,12 +1,16 @@
 //! `timeline`: the picture of a run.
 
-ghost use Rattle.std.specs.Prelude.{◌≡◌, ◌≢◌, ◌<◌, ◌≤◌, None, IfErr, MatchResult, OnOk};
+ghost use Rattle.std.specs.Prelude.{◌≡◌, ◌≢◌, ◌<◌, ◌≤◌, None, IfErr, IfOk, MatchResult, OnOk, option_and_then};
 ghost use Rattle.ptk_words.specs.declared.TheConstants.{LAST_TICK};
+ghost use Rattle.ptk_symbols.specs.Tables.{exact};
+ghost use Rattle.ptk_timeline.specs.Starts.{start_of};
 ghost use Rattle.ptk_timeline_formats.specs.Missing.{first_missing};
 ghost use Rattle.ptk_timeline_formats.specs.declared.fault.FormatFault.TheVariants.{FromPastEnd};
 ghost use Rattle.ptk_timeline_formats.specs.Faults.{missing_in_format};
 ghost use Rattle.ptk_main_files.specs.Outcomes.{IsAccepted};
 ghost use Rattle.ptk_main_files.specs.Refusals.{IsFaultOf, refused_picture};
+ghost use Rattle.ptk_main_files.specs.World.{world_at};
+ghost use Rattle.ptk_main_commands.specs.Answered.{AreRoutines, PutsPicture};
 ghost use Rattle.ptk_main_commands.specs.Refusals.{IsNamedRefusal, picture_refusal};
 ghost use Rattle.ptk_main_commands.specs.Statuses.{IsTimelineEnd};
 
@@ -61,10 +65,10 @@ fn timeline_config<'a>(
     )
 }
 
-/// Writes the picture of a run from a tick on, of whose bytes nothing is promised. A thread has the name of the symbol
-/// that begins where it starts, if one does: as SVG the last thread of each number, as trace events each that starts
-/// from the tick on; a Value Change Dump has no names. `Fault::NothingFrom` where the run ends at that tick or before
-/// it, which is looked at first.
+/// Writes the picture of a run from a tick on. A thread has the name of the symbol that begins where it starts, if one
+/// does: as SVG the last thread of each number, as trace events each that starts from the tick on; a Value Change Dump
+/// has no names. `Fault::NothingFrom` where the run ends at that tick or before it, which is looked at first. Of the
+/// bytes of the forms beside SVG nothing is promised.
 pub fn timeline_answer<'a, W: Write>(
     alloc: Global,
     config: &'a Config,
@@ -78,6 +82,8 @@ pub fn timeline_answer<'a, W: Write>(
     requires { to ≤ LAST_TICK }
     ensures refused { let refusal = refused_picture config.now files.now from to in
         MatchResult result (λ _. refusal ≡ None) (IsFaultOf refusal refusal) }
+    ensures drawn { OnOk result (format ≡ PictureFormat.Svg →
+        PutsPicture symbols.now config.now files.now from to (W.contents out.old) (W.contents out.new)) }
 {
     match put_picture(alloc, config, files, symbols, format, from, to, out) {
         Ok(()) => Ok(()),
@@ -106,6 +112,8 @@ fn put_picture<W: Write>(
     ensures missing { MatchResult result
         (λ _. first_missing files.now config.now.sections ≡ None)
         (λ fault. fault ≢ FromPastEnd → first_missing files.now config.now.sections ≡ missing_in_format fault) }
+    ensures drawn { OnOk result (format ≡ PictureFormat.Svg →
+        PutsPicture symbols.now config.now files.now from to (W.contents out.old) (W.contents out.new)) }
 {
     match format {
         PictureFormat::Svg => put_svg(alloc, config, files, symbols, from, to, out),
@@ -133,6 +141,7 @@ fn put_svg<W: Write>(
     ensures missing { MatchResult result
         (λ _. first_missing files.now config.now.sections ≡ None)
         (λ fault. fault ≢ FromPastEnd → first_missing files.now config.now.sections ≡ missing_in_format fault) }
+    ensures drawn { OnOk result (PutsPicture symbols.now config.now files.now from to (W.contents out.old) (W.contents out.new)) }
 {
     if to.ticks() <= from.ticks() {
         return Err(FormatFault::FromPastEnd);
@@ -166,6 +175,8 @@ fn starts_of(
     requires { to ≤ LAST_TICK }
     ensures known { IfErr result (λ fault. fault ≢ FromPastEnd) }
     ensures missing { IfErr result (λ fault. first_missing files.now config.now.sections ≡ missing_in_format fault) }
+    ensures named { IfOk result (λ starts. AreRoutines symbols.now (world_at config.now files.now 0) to
+        (λ p number. option_and_then (exact symbols.now) (start_of starts p number))) }
 {
     if symbols.is_empty() {
         return Ok(Starts::none(alloc));
