@@ -1,7 +1,7 @@
 -- What the requests of this crate write, by the form and the ticks that are asked for.
 use Rattle.std.proofs.Common.{◌≡◌, ℕ, List, Option, None, Result, Ok, Err, refl, subst}
 use Rattle.std.specs.Borrow.{Bor}
-use Rattle.std.specs.Prelude.{MatchResult, OnOk}
+use Rattle.std.specs.Prelude.{MatchResult, OnOk, unwrap_or}
 use Rattle.ptk_symbols.specs.Tables.{table_of}
 use Rattle.ptk_config.specs.Configuration.{Configuration}
 use Rattle.ptk_statistics.specs.Answered.{PutsRun}
@@ -11,15 +11,17 @@ use Rattle.ptk_statistics.specs.declared.answer.Form.TheVariants as figures
 use Rattle.ptk_explanation.specs.declared.answer.Form.{Form as Standing}
 use Rattle.ptk_explanation.specs.declared.answer.Form.TheVariants as standing
 use Rattle.ptk_main_line.specs.declared.requests.ExplainOptions.{ExplainOptions}
+use Rattle.ptk_main_line.specs.declared.requests.PictureFormat.TheVariants.{Svg}
 use Rattle.ptk_main_line.specs.declared.requests.StatsOptions.{StatsOptions}
+use Rattle.ptk_main_line.specs.declared.requests.TimelineOptions.{TimelineOptions}
 use Rattle.ptk_main_faults.specs.declared.fault.Fault.{Fault}
 use Rattle.ptk_main_files.specs.NamedFiles.{NamedFile}
 use Rattle.ptk_main_files.specs.Outcomes.{WithImages, partition_refusal}
 use Rattle.ptk_main_files.specs.Reading.{AreImagesOf}
 use Rattle.ptk_main_files.specs.Refusals.{IsFaultOf}
 use Rattle.ptk_main_files.specs.World.{World, world_at}
-use Rattle.ptk_main_commands.specs.Answered.{IsExplanationOf, IsStatsOf, PutsFigures, PutsStanding, figures_in, standing_in}
-use Rattle.ptk_main_commands.specs.Refusals.{stats_refusal}
+use Rattle.ptk_main_commands.specs.Answered.{IsExplanationOf, IsStatsOf, IsTimelineOf, PutsFigures, PutsPicture, PutsStanding, figures_in, standing_in}
+use Rattle.ptk_main_commands.specs.Refusals.{picture_refusal, stats_refusal}
 
 -- figures in a form, by what is written in each
 pub figures_by : (shown : Figures) (world : World) (asked : Option (Bor (List ℕ))) (old new : Option (List ℕ)) → (shown ≡ figures.Json → PutsRun world asked old new) → (shown ≡ figures.Tables → PutsTables world asked old new)
@@ -66,3 +68,22 @@ explanation_by options config (Ok u) files ticks bytes symbols old new images ta
   },
 )
 explanation_by options config (Err fault) files ticks bytes symbols old new images table same is written = tt
+
+-- a good outcome of a picture, of the ticks that are asked for
+pub timeline_by : {T : Type 0} (options : TimelineOptions) (config : Configuration) (outcome : Result T Fault) (files : List NamedFile) (from to : ℕ) (bytes : List ℕ) (symbols : List (ℕ × List ℕ)) (old new : Option (List ℕ))
+    → AreImagesOf config.sections files → table_of bytes ≡ Ok symbols → from ≡ unwrap_or options.from 0 → to ≡ options.run.ticks
+    → MatchResult outcome (λ _. picture_refusal options config files ≡ None) (IsFaultOf (picture_refusal options config files) (picture_refusal options config files))
+    → OnOk outcome (options.format ≡ Svg → PutsPicture symbols config files from to old new) → OnOk outcome (WithImages config.sections (IsTimelineOf options config old new))
+timeline_by options config (Ok u) files from to bytes symbols old new images table begins ends is drawn = (
+  files,
+  images,
+  record {
+    accepted = is;
+    bytes = bytes;
+    symbols = symbols;
+    table = table;
+    drawn = λ svg. subst (λ (t : ℕ). PutsPicture symbols config files (unwrap_or options.from 0) t old new) ends
+        (subst (λ (f : ℕ). PutsPicture symbols config files f to old new) begins (drawn svg));
+  },
+)
+timeline_by options config (Err fault) files from to bytes symbols old new images table begins ends is drawn = tt

@@ -1,5 +1,5 @@
 -- What the requests of this crate write of a configuration and the images that were read of it.
-use Rattle.std.specs.Prelude.{◌≡◌, ◌<◌, ◌≤◌, ℕ, List, Option, Some, None, Ok, length, option_and_then}
+use Rattle.std.specs.Prelude.{◌≡◌, ◌<◌, ◌≤◌, ℕ, List, Option, Some, None, Ok, length, option_and_then, unwrap_or}
 use Rattle.std.specs.Borrow.{Bor}
 use Rattle.std.specs.Io.KnownBytes.{Appends}
 use Rattle.ptk_words.specs.declared.TheConstants.{THREAD_LIMIT}
@@ -18,12 +18,14 @@ use Rattle.ptk_explanation.specs.declared.answer.Form.TheVariants as standing
 use Rattle.ptk_main_line.specs.declared.requests.ExplainOptions.{ExplainOptions}
 use Rattle.ptk_main_line.specs.declared.requests.Format.{Format}
 use Rattle.ptk_main_line.specs.declared.requests.Format.TheVariants as form
+use Rattle.ptk_main_line.specs.declared.requests.PictureFormat.TheVariants.{Svg}
 use Rattle.ptk_main_line.specs.declared.requests.StatsOptions.{StatsOptions}
+use Rattle.ptk_main_line.specs.declared.requests.TimelineOptions.{TimelineOptions}
 use Rattle.ptk_main_files.specs.NamedFiles.{NamedFile}
 use Rattle.ptk_main_files.specs.Outcomes.{partition_refusal}
 use Rattle.ptk_main_files.specs.Parts.{part_named}
 use Rattle.ptk_main_files.specs.World.{World, world_at}
-use Rattle.ptk_main_commands.specs.Refusals.{stats_refusal}
+use Rattle.ptk_main_commands.specs.Refusals.{picture_refusal, stats_refusal}
 
 -- ---- figures
 
@@ -78,3 +80,11 @@ abbrev pub PutsPicture : List (ℕ × List ℕ) → Configuration → List Named
 PutsPicture symbols config files from to old new =
     (names : Names) × AreRoutines symbols (world_at config files 0) to (routine_of names)
     × (text : List ℕ) × IsPictureOf config (world_at config files 0) names from to text × Appends old new text
+
+-- with these images nothing is refused, and as SVG the picture is written of the ticks that are asked for, with the symbols of a text (own)
+pub record IsTimelineOf (options : TimelineOptions) (config : Configuration) (old new : Option (List ℕ)) (files : List NamedFile) : Type 0 where
+  pub accepted : picture_refusal options config files ≡ None
+  pub bytes : List ℕ
+  pub symbols : List (ℕ × List ℕ)
+  pub table : table_of bytes ≡ Ok symbols
+  pub drawn : options.format ≡ Svg → PutsPicture symbols config files (unwrap_or options.from 0) options.run.ticks old new

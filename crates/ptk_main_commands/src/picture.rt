@@ -7,10 +7,10 @@ ghost use Rattle.ptk_timeline.specs.Starts.{start_of};
 ghost use Rattle.ptk_timeline_formats.specs.Missing.{first_missing};
 ghost use Rattle.ptk_timeline_formats.specs.declared.fault.FormatFault.TheVariants.{FromPastEnd};
 ghost use Rattle.ptk_timeline_formats.specs.Faults.{missing_in_format};
-ghost use Rattle.ptk_main_files.specs.Outcomes.{IsAccepted};
+ghost use Rattle.ptk_main_files.specs.Outcomes.{WithImages};
 ghost use Rattle.ptk_main_files.specs.Refusals.{IsFaultOf, refused_picture};
 ghost use Rattle.ptk_main_files.specs.World.{world_at};
-ghost use Rattle.ptk_main_commands.specs.Answered.{AreRoutines, PutsPicture};
+ghost use Rattle.ptk_main_commands.specs.Answered.{AreRoutines, IsTimelineOf, PutsPicture};
 ghost use Rattle.ptk_main_commands.specs.Refusals.{IsNamedRefusal, picture_refusal};
 ghost use Rattle.ptk_main_commands.specs.Statuses.{IsTimelineEnd};
 
@@ -33,19 +33,20 @@ pub(crate) fn timeline(rt: &HostRuntime, options: TimelineOptions<'_>) -> u8
     ensures { IsTimelineEnd options.entry result }
 {
     match config_in(rt, options.run.file) {
-        Ok(config) => end(rt, timeline_config(rt, &config, options)),
+        Ok(config) => end(rt, timeline_config(rt, &config, options, &mut rt.stdout())),
         Err(fault) => tell(rt, &fault),
     }
 }
 
-// The picture of a run of a configuration, on standard output.
-fn timeline_config<'a>(
+// Writes the picture of a run of a configuration.
+fn timeline_config<'a, W: Write>(
     rt: &HostRuntime,
     config: &'a Config,
     options: TimelineOptions<'a>,
+    out: &mut W,
 ) -> Result<(), Fault<'a>>
     requires { options.run.ticks ≤ LAST_TICK }
-    ensures accepted { OnOk result (IsAccepted config.now.sections (picture_refusal options.entry config.now)) }
+    ensures accepted { OnOk result (WithImages config.now.sections (IsTimelineOf options.entry config.now (W.contents out.old) (W.contents out.new))) }
     ensures refused { IfErr result (IsNamedRefusal options.entry.symbols config.now (picture_refusal options.entry config.now)) }
 {
     let files = images_of(rt, config, options.run.root)?;
@@ -61,7 +62,7 @@ fn timeline_config<'a>(
         options.format,
         from,
         to,
-        &mut rt.stdout(),
+        out,
     )
 }
 

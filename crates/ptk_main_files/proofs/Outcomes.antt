@@ -32,7 +32,7 @@ use Rattle.ptk_impact_answers.specs.SameRuns.{AreSameRuns}
 use Rattle.ptk_impact_answers.specs.Written.{PutsAnswer}
 use Rattle.ptk_impact_answers.specs.declared.release.Release.{Release}
 use Rattle.ptk_impact_answers.specs.declared.tally.Tally.{Tally}
-use Rattle.ptk_main_files.specs.Outcomes.{IsAccepted, IsComparison, IsCountFault, IsRefused, IsRunFault, IsRunFaultWith, IsRunOf, IsTraceFault, IsTraceOf, IsTraced, IsUnexpected, IsUnsaid, PutsTrace, WithImages, WithReleases, partition_refusal, question_of, run_question}
+use Rattle.ptk_main_files.specs.Outcomes.{IsComparison, IsCountFault, IsRefused, IsRunFault, IsRunFaultWith, IsRunOf, IsTraceFault, IsTraceOf, IsTraced, IsUnexpected, IsUnsaid, PutsTrace, WithImages, WithReleases, partition_refusal, question_of, run_question}
 use Rattle.ptk_main_files.specs.Statuses.{IsCheckStatus, IsEndStatus, IsImpactStatus, IsRunStatus, IsTraceStatus}
 use Rattle.ptk_main_files.specs.Traces.{as_traced}
 
@@ -55,13 +55,7 @@ on_any P (Err fault) holds = tt
 
 -- ---- with the images that were read
 
--- a good outcome
-pub accepted_by : (sections : List Section) (lack refusal : List NamedFile → Option Fault) (outcome : Result (Unit {0}) Fault) (files : List NamedFile) → AreImagesOf sections files
-    → MatchResult outcome (λ _. refusal files ≡ None) (IsFaultOf (lack files) (refusal files)) → OnOk outcome (IsAccepted sections refusal)
-accepted_by sections lack refusal (Ok u) files named is = (files, named, is)
-accepted_by sections lack refusal (Err fault) files named is = tt
-
--- a bad one
+-- a bad outcome
 pub refused_by : (sections : List Section) (lack refusal : List NamedFile → Option Fault) (outcome : Result (Unit {0}) Fault) (files : List NamedFile) → AreImagesOf sections files
     → MatchResult outcome (λ _. refusal files ≡ None) (IsFaultOf (lack files) (refusal files)) → IfErr outcome (IsRefused sections lack refusal)
 refused_by sections lack refusal (Ok u) files named is = tt

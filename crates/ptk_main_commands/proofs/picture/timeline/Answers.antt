@@ -1,4 +1,5 @@
 use Rattle.std.proofs.Common.{inl, inr}
+use Rattle.std.proofs.lemmas.Result.{on_ok_weaker}
 use Rattle.ptk_main_files.specs.Outcomes.{IsAccepted}
 use Rattle.ptk_main_files.proofs.Outcomes.{ended}
 use Rattle.ptk_main_commands.specs.Refusals.{IsNamedRefusal, picture_refusal}
@@ -10,7 +11,7 @@ returns-in-Ok c =
     inr (
       c.in-Ok.config,
       ended (IsAccepted c.in-Ok.config.sections refusal) (IsNamedRefusal c.args.options.symbols c.in-Ok.config refusal) c.timeline_config.result c.end.result
-          c.timeline_config.ensures.accepted c.timeline_config.ensures.refused c.end.ensures.done c.end.ensures.failed,
+          (on_ok_weaker c.timeline_config.result (λ images. (images.0, images.1, images.2.accepted)) c.timeline_config.ensures.accepted) c.timeline_config.ensures.refused c.end.ensures.done c.end.ensures.failed,
     )
 
 pub returns-in-Err : goal.returns-in-Err
