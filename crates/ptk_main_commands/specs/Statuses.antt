@@ -1,8 +1,8 @@
 -- Which status each request ends with, by what came of it.
-use Rattle.std.specs.Prelude.{◌≡◌, ◌⊎◌, ℕ, List}
-use Rattle.clap.specs.Words.{Text}
+use Rattle.std.specs.Prelude.{◌≡◌, ◌⊎◌, ℕ, List, []}
+use Rattle.clap.specs.Words.{Text, fault_of}
 use Rattle.ptk_config.specs.Configuration.{Configuration}
-use Rattle.ptk_main_line.specs.CommandLine.{Asks, AsksNothing}
+use Rattle.ptk_main_line.specs.CommandLine.{Asks, AsksNothing, ptk}
 use Rattle.ptk_main_line.specs.declared.requests.ExplainOptions.{ExplainOptions}
 use Rattle.ptk_main_line.specs.declared.requests.Request.{Request}
 use Rattle.ptk_main_line.specs.declared.requests.Request.TheVariants.{Run, Trace, Timeline, Asm, Check, Disasm, Impact, Explain, Stats}
@@ -12,7 +12,8 @@ use Rattle.ptk_main_faults.specs.Statuses.{status_number}
 use Rattle.ptk_main_faults.specs.declared.status.ExitStatus.TheVariants.{Done, HostFailure, Usage}
 use Rattle.ptk_main_files.specs.Outcomes.{IsAccepted, IsRefused, partition_refusal}
 use Rattle.ptk_main_files.specs.Statuses.{IsAsmEnd, IsCheckEnd, IsConfigStatus, IsDisasmEnd, IsEndStatus, IsImpactEnd, IsRunEnd, IsTraceAnswer}
-use Rattle.ptk_main_commands.specs.Refusals.{IsNamedRefusal, picture_refusal, stats_refusal}
+use Rattle.ptk_main_files.specs.Usage.{IsUsageStatus}
+use Rattle.ptk_main_commands.specs.Refusals.{AreHelp, AreWrong, IsNamedRefusal, picture_refusal, stats_refusal}
 
 -- ---- the commands of this crate
 
@@ -74,3 +75,13 @@ IsTakenStatus words status =
 -- the status of a request for help: done, or memory ran out or it was not written (own)
 abbrev pub IsHelpStatus : ℕ → Type 0
 IsHelpStatus status = (status ≡ status_number Done) ⊎ (status ≡ status_number HostFailure)
+
+-- the status of the words of a command line: of wrong ones, of a request for help, or of words that clap takes (own)
+pub record IsLineStatus (words : List Text) (status : ℕ) : Type 0 where
+  pub wrong : AreWrong words → IsUsageStatus status
+  pub help : AreHelp words → IsHelpStatus status
+  pub taken : fault_of ptk words ≡ [] → IsTakenStatus words status
+
+-- the status of a command line: of words that are not read, or of some words (own)
+abbrev pub IsProgramStatus : ℕ → Type 0
+IsProgramStatus status = IsUsageStatus status ⊎ ((words : List Text) × IsLineStatus words status)
