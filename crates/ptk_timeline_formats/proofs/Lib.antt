@@ -7,3 +7,8 @@ pub mod Traces
 pub mod Instants
 pub mod JsonNames
 pub mod Holding
+pub mod Each
+pub mod Reached
+pub mod Stretches
+pub mod Turns
+pub mod Wholes

@@ -1,5 +1,5 @@
 -- Whose window it is, and what a dump and a trace have of it.
-use Rattle.std.specs.Prelude.{ℕ, List, [], ◌++◌, Bool, false, ◌==◌, if◌then◌else◌, Option, Some, None}
+use Rattle.std.specs.Prelude.{ℕ, min, List, [], ◌++◌, Bool, false, ◌==◌, if◌then◌else◌, Option, Some, None}
 use Rattle.ptk_timeline_formats.specs.declared.board.Holder.{Holder}
 use Rattle.ptk_timeline_formats.specs.declared.change.Change.TheVariants.{WindowBegins, WindowEnds}
 use Rattle.ptk_timeline_formats.specs.Events.{change_events}
@@ -32,6 +32,10 @@ abbrev pub opening_lines : ℕ → ℕ → ℕ → Option Holder → List ℕ
 opening_lines at tick p holder =
     if is_open p holder then [] else (closing_lines at tick holder ++ change_lines (tick_behind_closing at tick holder) tick p WindowBegins)
 
+-- the tick of which a dump's last line is behind that
+abbrev pub tick_behind_opening : ℕ → ℕ → ℕ → Option Holder → ℕ
+tick_behind_opening at tick p holder = if is_open p holder then at else tick
+
 -- ---- a trace
 
 -- what a trace has of the end of the window that is open: its slice (own)
@@ -42,3 +46,10 @@ closing_events symbols tick (Some holder) = change_events symbols holder.partiti
 -- what a trace has of the begin of a window of a partition: the slice of the one that was open (own)
 abbrev pub opening_events : List (ℕ × List ℕ) → ℕ → ℕ → Option Holder → List ℕ
 opening_events symbols tick p holder = if is_open p holder then [] else closing_events symbols tick holder
+
+-- ---- the next window
+
+-- the earlier of a tick and another, if there is another
+abbrev pub earlier : ℕ → Option ℕ → ℕ
+earlier next None = next
+earlier next (Some start) = min next start

@@ -6,4 +6,6 @@ pub mod Events
 pub mod Holders
 pub mod Texts
 pub mod Traces
+pub mod Dumps
+pub mod Runs
 pub use Rattle.ptk_main_runs.specs.Missing

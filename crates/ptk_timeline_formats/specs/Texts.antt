@@ -15,6 +15,11 @@ use Rattle.ptk_timeline_formats.specs.declared.view.PartView.{PartView}
 use Rattle.ptk_timeline_formats.specs.Shown.{is_step_of, runner_shown, shown_in, status_shown}
 use Rattle.ptk_timeline_formats.specs.Signals.{SIGNALS, bit_line, changes_lines, lines_at, number_or_none, priority_line, shown_lines, state_line, status_number, tick_behind_all, vector_line}
 
+-- the texts of elements, one after another, each by its number, from this one on
+abbrev pub each_text : {A : Type 0} → (ℕ → A → List ℕ) → ℕ → List A → List ℕ
+each_text text n [] = []
+each_text text n (x ∷ xs) = text n x ++ each_text text (n + 1) xs
+
 -- what a dump has at a tick of a thread that was shown so before, behind a line of tick `at`: nothing where it is shown so still, else its lines (own)
 abbrev pub thread_text : Bool → ℕ → ℕ → ℕ → ℕ → Shown → Shown → List ℕ
 thread_text is_same at tick p t before shown = if is_same then [] else lines_at at tick (shown_lines p t before shown)
@@ -25,6 +30,11 @@ threads_text same shown at tick p t [] = []
 threads_text same shown at tick p t (kept ∷ rest) =
     thread_text (same (shown t) kept.shown) at tick p t kept.shown (shown t)
     ++ threads_text same shown (if same (shown t) kept.shown then at else tick) tick p (t + 1) rest
+
+-- the tick of which a dump's last line is behind that
+abbrev pub threads_behind : (Shown → Shown → Bool) → (ℕ → Shown) → ℕ → ℕ → ℕ → List ShownSince → ℕ
+threads_behind same shown at tick t [] = at
+threads_behind same shown at tick t (kept ∷ rest) = threads_behind same shown (if same (shown t) kept.shown then at else tick) tick (t + 1) rest
 
 -- the changes of the status and the running thread of a partition that was shown so, if they are not the same (own)
 abbrev pub part_changes : (PartStatus → PartStatus → Bool) → (Option ThreadNumber → Option ThreadNumber → Bool) → Option Step → Part → PartView → List (Option Change)
@@ -38,6 +48,12 @@ part_text same_status same_runner same step s at tick p view =
     changes_lines at tick p (part_changes same_status same_runner step s view)
     ++ threads_text same (λ (t : ℕ). shown_in (is_step_of step t) t s)
     (tick_behind_all at tick (part_changes same_status same_runner step s view)) tick p 1 (take THREAD_LIMIT view.threads.items)
+
+-- the tick of which a dump's last line is behind that
+abbrev pub part_behind : (PartStatus → PartStatus → Bool) → (Option ThreadNumber → Option ThreadNumber → Bool) → (Shown → Shown → Bool) → Option Step → Part → ℕ → ℕ → PartView → ℕ
+part_behind same_status same_runner same step s at tick view =
+    threads_behind same (λ (t : ℕ). shown_in (is_step_of step t) t s) (tick_behind_all at tick (part_changes same_status same_runner step s view)) tick 1
+    (take THREAD_LIMIT view.threads.items)
 
 -- the lines of the values of the threads from number t on (own)
 abbrev pub values_text : ℕ → ℕ → List ShownSince → List ℕ

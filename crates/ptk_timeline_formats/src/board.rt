@@ -1,11 +1,14 @@
 //! What is shown of all partitions.
 
-ghost use Rattle.std.specs.Prelude.{◌≡◌, ◌≢◌, ℕ, ◌+◌, ◌<◌, ◌≤◌, None, Some, IfOk, OnOk, length, slice_index_or};
+ghost use Rattle.std.specs.Prelude.{◌≡◌, ◌≢◌, ℕ, ◌+◌, ◌<◌, ◌≤◌, List, None, Some, IfOk, OnOk, length, slice_index_or, take};
 ghost use Rattle.std.specs.Io.KnownBytes.{Appends};
 ghost use Rattle.ptk_words.specs.declared.TheConstants.{LAST_TICK};
+ghost use Rattle.ptk_main_runs.specs.World.{section_at};
 ghost use Rattle.ptk_timeline_formats.specs.declared.sheet.Form.TheVariants.{Vcd, Events};
 ghost use Rattle.ptk_timeline_formats.specs.declared.view.PartView.{PartView};
-ghost use Rattle.ptk_timeline_formats.specs.Holders.{closing_events, closing_lines, is_open, opened, opening_events, opening_lines, tick_behind_closing};
+ghost use Rattle.ptk_timeline_formats.specs.Holders.{closing_events, closing_lines, earlier, is_open, opened, opening_events, opening_lines, tick_behind_closing, tick_behind_opening};
+ghost use Rattle.ptk_timeline_formats.specs.Runs.{AreFirstViews, AreTurns, IsGoneOver, IsNextStart, IsTurn, has_view};
+ghost use Rattle.ptk_timeline_formats.specs.Texts.{each_text, first_text};
 
 use crate::change::Change;
 use crate::sheet::Sheet;
@@ -32,15 +35,14 @@ pub(crate) struct Board {
 
 impl Board {
     /// What is shown of the partitions of a system from its tick on. An error where memory ran out.
-    pub(crate) fn new(alloc: Global, system: &System<'_>) -> Result<Board, AllocError> {
+    pub(crate) fn new(alloc: Global, system: &System<'_>) -> Result<Board, AllocError>
+        ensures views { IfOk result (λ board. AreFirstViews system.now board.views.items) }
+        ensures holder { IfOk result (λ board. board.holder ≡ None) }
+    {
         let mut views = Vec::new(alloc);
         for i in 0..system.parts() {
-            let threads = match system.config().sections().get(i) {
-                Some(section) => section.limits().threads,
-                None => 0,
-            };
             let p = PartId::new(i as u8);
-            views.push(PartView::new(alloc, system, p, threads)?)?;
+            views.push(PartView::new(alloc, system, p, threads_of(system, p))?)?;
         }
         Ok(Board {
             views,
@@ -58,6 +60,10 @@ impl Board {
         requires within { sheet.old.at ≤ sheet.old.to }
         ensures within { sheet.new.at ≤ sheet.old.at }
         ensures to { sheet.new.to ≡ sheet.old.to }
+        ensures form { sheet.new.form ≡ sheet.old.form }
+        ensures reached { sheet.old.form ≡ Vcd → OnOk result (sheet.new.at ≡ sheet.old.at) }
+        ensures dump { sheet.old.form ≡ Vcd → OnOk result (Appends (W.contents out.old) (W.contents out.new)
+            (each_text first_text 0 (take (length system.now.config.sections) self.now.views.items))) }
     {
         for i in 0..self.views.len().min(system.parts()) {
             self.views[i].put_all(system, PartId::new(i as u8), sheet, out)?;
@@ -94,6 +100,10 @@ impl Board {
         requires within { sheet.old.at ≤ sheet.old.to }
         ensures within { sheet.new.at ≤ sheet.old.to }
         ensures to { sheet.new.to ≡ sheet.old.to }
+        ensures form { sheet.new.form ≡ sheet.old.form }
+        ensures dump { sheet.old.form ≡ Vcd → OnOk result ((lines : List ℕ) × Appends (W.contents out.old) (W.contents out.new) lines
+            × AreTurns config.now sheet.old.to sheet.old.at (record { world = system.old; at = sheet.old.at; board = self.old })
+            sheet.old.to (record { world = system.new; at = sheet.new.at; board = self.new }) lines) }
     {
         let to = sheet.to();
         let mut tick = sheet.at();
@@ -117,6 +127,10 @@ impl Board {
         ensures on { IfOk result (λ next. (tick < next) × (next ≤ sheet.old.to) × (sheet.new.at ≤ next)) }
         ensures within { sheet.new.at ≤ sheet.old.to }
         ensures to { sheet.new.to ≡ sheet.old.to }
+        ensures form { sheet.new.form ≡ sheet.old.form }
+        ensures dump { sheet.old.form ≡ Vcd → IfOk result (λ next. (lines : List ℕ) × Appends (W.contents out.old) (W.contents out.new) lines
+            × IsTurn config.now tick sheet.old.to next (record { world = system.old; at = sheet.old.at; board = self.old })
+            (record { world = system.new; at = sheet.new.at; board = self.new }) lines) }
     {
         let to = sheet.to();
         match config.plan().at(Tick::new(tick)) {
@@ -149,17 +163,27 @@ impl Board {
         requires to { end ≤ sheet.old.to }
         ensures within { sheet.new.at ≤ end }
         ensures to { sheet.new.to ≡ sheet.old.to }
+        ensures form { sheet.new.form ≡ sheet.old.form }
         ensures holder { self.new.holder ≡ self.old.holder }
         ensures count { length self.new.views.items ≡ length self.old.views.items }
         ensures others { (place : ℕ) (default : PartView) → place ≢ p →
             slice_index_or self.new.views.items place default ≡ slice_index_or self.old.views.items place default }
         ensures config { system.new.config ≡ system.old.config }
+        ensures dump { sheet.old.form ≡ Vcd → OnOk result ((lines : List ℕ) × Appends (W.contents out.old) (W.contents out.new) lines
+            × IsGoneOver p from end (record { world = system.old; at = sheet.old.at; board = self.old })
+            (record { world = system.new; at = sheet.new.at; board = self.new }) lines) }
     {
-        let place = p.index();
-        if place < self.views.len() && place < system.parts() {
-            return self.views[place].run(system, p, from, end, sheet, out);
+        if !self.has_view(p, system) {
+            return Ok(());
         }
-        Ok(())
+        self.views[p.index()].run(system, p, from, end, sheet, out)
+    }
+
+    /// Whether the partition has a view, and a section in the system's configuration.
+    fn has_view(&self, p: PartId, system: &System<'_>) -> bool
+        ensures { result ≡ has_view p self.now.views.items system.now }
+    {
+        p.index() < self.views.len() && p.index() < system.parts()
     }
 
     /// Whether the window of a partition is open.
@@ -185,6 +209,8 @@ impl Board {
         requires to { tick ≤ sheet.old.to }
         ensures within { sheet.new.at ≤ tick }
         ensures to { sheet.new.to ≡ sheet.old.to }
+        ensures form { sheet.new.form ≡ sheet.old.form }
+        ensures reached { sheet.old.form ≡ Vcd → OnOk result (sheet.new.at ≡ tick_behind_opening sheet.old.at tick p self.old.holder) }
         ensures holder { OnOk result (self.new ≡ record self.old { holder = Some (opened p tick self.old.holder) }) }
         ensures dump { sheet.old.form ≡ Vcd → OnOk result (Appends (W.contents out.old) (W.contents out.new)
             (opening_lines sheet.old.at tick p self.old.holder)) }
@@ -234,18 +260,36 @@ impl Board {
 /// How many partitions a system has at most.
 pub(crate) const PARTS: usize = 8;
 
+/// How many threads the section of a partition allows.
+fn threads_of(system: &System<'_>, p: PartId) -> u32
+    requires { p < length system.now.config.sections }
+    ensures { result ≡ (section_at system.now.config p).limits.threads }
+{
+    system.config().sections()[p.index()].limits().threads
+}
+
 /// The first tick of the next window after a tick in none, the last tick where that is later.
 fn next_start(config: &Config, tick: u64, to: u64) -> u64
     requires order { tick < to }
     requires early { to ≤ LAST_TICK }
     ensures from { tick < result }
     ensures to { result ≤ to }
+    ensures start { IsNextStart config.now.plan (length config.now.sections) tick to result }
 {
     let mut next = to;
     for i in 0..config.parts() {
-        if let Some(start) = config.plan().next_of(PartId::new(i as u8), Tick::new(tick)) {
-            next = next.min(start.ticks());
-        }
+        let start = config.plan().next_of(PartId::new(i as u8), Tick::new(tick));
+        next = earlier(next, start);
     }
     next.max(tick + 1)
+}
+
+/// The earlier of a tick and another, if there is another.
+fn earlier(next: u64, start: Option<Tick>) -> u64
+    ensures { result ≡ earlier next start }
+{
+    match start {
+        Some(start) => next.min(start.ticks()),
+        None => next,
+    }
 }

@@ -1,10 +1,14 @@
 //! Runs, written.
 
-ghost use Rattle.std.specs.Prelude.{◌≡◌, ◌≢◌, ◌<◌, ◌≤◌, None, IfErr, MatchResult, OnOk};
+ghost use Rattle.std.specs.Prelude.{◌≡◌, ◌≢◌, ℕ, ◌<◌, ◌≤◌, List, None, IfErr, IfOk, MatchResult, OnOk};
+ghost use Rattle.std.specs.Io.KnownBytes.{Appends};
 ghost use Rattle.ptk_words.specs.declared.TheConstants.{LAST_TICK};
 ghost use Rattle.ptk_main_runs.specs.Missing.{first_missing};
+ghost use Rattle.ptk_main_runs.specs.World.{world_at};
 ghost use Rattle.ptk_timeline_formats.specs.declared.fault.FormatFault.TheVariants.{FromPastEnd};
+ghost use Rattle.ptk_timeline_formats.specs.declared.sheet.Form.TheVariants.{Vcd};
 ghost use Rattle.ptk_timeline_formats.specs.Faults.{missing_in_format};
+ghost use Rattle.ptk_timeline_formats.specs.Runs.{IsDump, PutsDump, last_line};
 
 use crate::board::Board;
 use crate::fault::FormatFault;
@@ -41,6 +45,7 @@ pub fn dump_with<W: Write>(
         (λ _. first_missing files.now config.now.sections ≡ None)
         (λ fault. fault ≢ FromPastEnd → first_missing files.now config.now.sections ≡ missing_in_format fault) }
     ensures silent { IfErr result (λ fault. fault ≢ FormatFault.Write → fault ≢ FormatFault.Memory → out.new ≡ out.old) }
+    ensures dump { form ≡ Vcd → OnOk result (PutsDump (world_at config.now files.now from) from ticks (W.contents out.old) (W.contents out.new)) }
 {
     if ticks.ticks() <= from.ticks() {
         return Err(FormatFault::FromPastEnd);
@@ -62,6 +67,7 @@ fn system_at<'a>(
     tick: Tick,
 ) -> Result<System<'a>, FormatFault>
     requires { tick ≤ LAST_TICK }
+    ensures reached { IfOk result (λ system. system ≡ world_at config.now files.now tick) }
     ensures known { IfErr result (λ fault. (fault ≢ FromPastEnd) × (fault ≢ FormatFault.Write) × (fault ≢ FormatFault.Memory)) }
     ensures missing { MatchResult result
         (λ _. first_missing files.now config.now.sections ≡ None)
@@ -85,6 +91,8 @@ fn put_run<W: Write>(
     out: &mut W,
 ) -> Result<(), PutFault>
     requires within { sheet.old.at ≤ sheet.old.to }
+    ensures { sheet.old.form ≡ Vcd → OnOk result ((text : List ℕ) × Appends (W.contents out.old) (W.contents out.new) text
+        × IsDump config.now system.old sheet.old.at sheet.old.to text) }
 {
     let mut board = Board::new(alloc, system)?;
     sheet.put_head(config, out)?;
@@ -101,6 +109,8 @@ fn put_end<W: Write>(
     out: &mut W,
 ) -> Result<(), PutFault>
     requires within { sheet.old.at ≤ sheet.old.to }
+    ensures { sheet.old.form ≡ Vcd → OnOk result (Appends (W.contents out.old) (W.contents out.new)
+        (last_line sheet.old.at sheet.old.to)) }
 {
     match sheet.form() {
         Form::Vcd => sheet.reach(sheet.to(), out),

@@ -34,6 +34,7 @@ ghost use Rattle.std.specs.Prelude.{◌≡◌, ◌<◌, ◌≤◌, false, OnOk};
 ghost use Rattle.std.specs.Io.KnownBytes.{Appends};
 ghost use Rattle.ptk_words.specs.declared.TheConstants.{LAST_TICK};
 ghost use Rattle.ptk_timeline_formats.specs.declared.sheet.Form.TheVariants.{Vcd, Events};
+ghost use Rattle.ptk_timeline_formats.specs.Dumps.{dump_head};
 ghost use Rattle.ptk_timeline_formats.specs.Events.{change_events, changes_events, events_head, events_if};
 ghost use Rattle.ptk_timeline_formats.specs.Signals.{change_lines, changes_lines, is_signal, lines_if, text_behind_first, tick_behind, tick_behind_all, tick_behind_if, tick_line};
 
@@ -61,6 +62,7 @@ impl<'a, 's> Sheet<'a, 's> {
         requires { to ≤ LAST_TICK }
         ensures at { result.at ≡ from }
         ensures to { result.to ≡ to }
+        ensures form { result.form ≡ form }
     {
         Sheet {
             form,
@@ -95,6 +97,7 @@ impl<'a, 's> Sheet<'a, 's> {
 
     /// Writes what is before the first values.
     pub(crate) fn put_head<W: Write>(&self, config: &Config, out: &mut W) -> Result<(), PutFault>
+        ensures dump { self.now.form ≡ Vcd → OnOk result (Appends (W.contents out.old) (W.contents out.new) (dump_head config.now.sections self.now.at)) }
         ensures events { self.now.form ≡ Events → OnOk result (Appends (W.contents out.old) (W.contents out.new) (events_head config.now.sections self.now.at self.now.to)) }
     {
         match self.form {

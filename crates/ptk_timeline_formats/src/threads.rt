@@ -9,7 +9,7 @@ ghost use Rattle.ptk_timeline_formats.specs.declared.sheet.Form.TheVariants.{Vcd
 ghost use Rattle.ptk_timeline_formats.specs.Events.{ends_by_itself, has_come, is_woken, shown_events, thread_events, threads_events, waker_of, waking_text};
 ghost use Rattle.ptk_timeline_formats.specs.Shown.{AreShown, is_step_of, shown_in};
 ghost use Rattle.ptk_timeline_formats.specs.Signals.{lines_at, shown_lines};
-ghost use Rattle.ptk_timeline_formats.specs.Texts.{thread_text, threads_text};
+ghost use Rattle.ptk_timeline_formats.specs.Texts.{thread_text, threads_behind, threads_text};
 
 use crate::change::{Change, ShownSince};
 use crate::sheet::Sheet;
@@ -59,6 +59,9 @@ pub(crate) fn show_threads<W: Write>(
     ensures within { sheet.new.at ≤ tick }
     ensures to { sheet.new.to ≡ sheet.old.to }
     ensures form { sheet.new.form ≡ sheet.old.form }
+    ensures reached { sheet.old.form ≡ Vcd → OnOk result (sheet.new.at ≡
+        threads_behind ⟦<Shown as PartialEq>⟧.eq (λ t. shown_in (is_step_of step.now t) t (state_of system.now p).part)
+        sheet.old.at tick 1 (take THREAD_LIMIT threads.old)) }
     ensures shown { OnOk result (AreShown step.now (state_of system.now p).part threads.new) }
     ensures dump { sheet.old.form ≡ Vcd → OnOk result (Appends (W.contents out.old) (W.contents out.new)
         (threads_text ⟦<Shown as PartialEq>⟧.eq (λ t. shown_in (is_step_of step.now t) t (state_of system.now p).part)

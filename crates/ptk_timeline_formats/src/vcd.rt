@@ -1,10 +1,13 @@
 //! The Value Change Dump (IEEE 1364-2005, section 18).
 
-ghost use Rattle.std.specs.Prelude.{◌≡◌, ◌+◌, ◌-◌, ◌*◌, OnOk, Some};
+ghost use Rattle.std.specs.Prelude.{◌≡◌, ◌≤◌, ◌+◌, ◌-◌, ◌*◌, OnOk, Some, length};
 ghost use Rattle.std.specs.Io.KnownBytes.{Appends};
+ghost use Rattle.ptk_words.specs.declared.TheConstants.{THREAD_LIMIT};
+ghost use Rattle.ptk_timeline_formats.specs.declared.board.TheConstants.{PARTS};
+ghost use Rattle.ptk_timeline_formats.specs.Dumps.{dump_head, part_scope, part_signals, thread_scope, thread_scopes};
 ghost use Rattle.ptk_timeline_formats.specs.Signals.{SIGNALS, bit_line, identifier, is_signal, number_or_none, status_number, thread_lines, value_lines, vector_line};
+ghost use Rattle.ptk_timeline_formats.specs.Texts.{each_text};
 
-use crate::board::PARTS;
 use crate::change::Change;
 use crate::shown::Shown;
 use ptk_config::{Config, Section};
@@ -81,30 +84,77 @@ impl fmt::Display for Signal {
 }
 
 /// Writes what is before the first values: a scope for each partition, in it its signals, and the first tick.
-pub(crate) fn put_vcd_head<W: Write>(config: &Config, from: u64, out: &mut W) -> io::Result<()> {
+pub(crate) fn put_vcd_head<W: Write>(config: &Config, from: u64, out: &mut W) -> io::Result<()>
+    ensures { OnOk result (Appends (W.contents out.old) (W.contents out.new) (dump_head config.now.sections from)) }
+{
     out.write_all(b"$version ptk timeline $end\n$timescale 1 us $end\n")?;
-    for (place, section) in config.sections().iter().enumerate() {
-        put_scope(PartId::new((place % PARTS) as u8), section, out)?;
-    }
+    put_scopes(config.sections(), out)?;
     writeln!(out, "$enddefinitions $end\n#{from}\n$dumpvars")
 }
 
+/// Writes a scope for each partition, in the order of their sections.
+fn put_scopes<W: Write>(sections: &[Section], out: &mut W) -> io::Result<()>
+    requires { length sections.now ≤ PARTS }
+    ensures { OnOk result (Appends (W.contents out.old) (W.contents out.new) (each_text part_scope 0 sections.now)) }
+{
+    for (place, section) in sections.iter().enumerate() {
+        put_scope(PartId::new(place as u8), section, out)?;
+    }
+    Ok(())
+}
+
 /// Writes the scope of a partition: its signals, and a scope with those of each of its threads.
-fn put_scope<W: Write>(p: PartId, section: &Section, out: &mut W) -> io::Result<()> {
-    let name = section.name();
+fn put_scope<W: Write>(p: PartId, section: &Section, out: &mut W) -> io::Result<()>
+    ensures { OnOk result (Appends (W.contents out.old) (W.contents out.new) (part_scope p section.now)) }
+{
     let (window, status, runner) = (Signal::window(p), Signal::status(p), Signal::runner(p));
+    put_part_signals(section.name(), window, status, runner, out)?;
+    put_thread_scopes(p, section.limits().threads, out)?;
+    out.write_all(b"$upscope $end\n")
+}
+
+/// Writes what begins the scope of a partition of a name: its signals.
+fn put_part_signals<W: Write>(
+    name: &str,
+    window: Signal,
+    status: Signal,
+    runner: Signal,
+    out: &mut W,
+) -> io::Result<()>
+    ensures { OnOk result (Appends (W.contents out.old) (W.contents out.new) (part_signals name.now window.0 status.0 runner.0)) }
+{
     writeln!(
         out,
         "$scope module {name} $end\n$var wire 1 {window} window $end\n$var wire 3 {status} status [2:0] $end\n$var wire 6 {runner} running [5:0] $end"
-    )?;
-    for number in 1..section.limits().threads.min(THREAD_LIMIT) as u8 + 1 {
+    )
+}
+
+/// Writes the scopes of a partition's threads, in the order of their numbers.
+fn put_thread_scopes<W: Write>(p: PartId, threads: u32, out: &mut W) -> io::Result<()>
+    requires { threads ≤ THREAD_LIMIT }
+    ensures { OnOk result (Appends (W.contents out.old) (W.contents out.new) (thread_scopes p threads)) }
+{
+    for i in 0..threads {
+        let number = i as u8 + 1;
         let (state, priority) = (Signal::state(p, number), Signal::priority(p, number));
-        writeln!(
-            out,
-            "$scope module thread_{number} $end\n$var wire 4 {state} state [3:0] $end\n$var wire 6 {priority} priority [5:0] $end\n$upscope $end"
-        )?;
+        put_thread_scope(number, state, priority, out)?;
     }
-    out.write_all(b"$upscope $end\n")
+    Ok(())
+}
+
+/// Writes the scope of a thread of a number: the signals of what it does and of its effective priority.
+fn put_thread_scope<W: Write>(
+    number: u8,
+    state: Signal,
+    priority: Signal,
+    out: &mut W,
+) -> io::Result<()>
+    ensures { OnOk result (Appends (W.contents out.old) (W.contents out.new) (thread_scope number state.0 priority.0)) }
+{
+    writeln!(
+        out,
+        "$scope module thread_{number} $end\n$var wire 4 {state} state [3:0] $end\n$var wire 6 {priority} priority [5:0] $end\n$upscope $end"
+    )
 }
 
 /// Whether a signal shows the change.

@@ -1,13 +1,14 @@
 //! What is shown of a partition.
 
-ghost use Rattle.std.specs.Prelude.{◌≡◌, ℕ, ◌+◌, ◌<◌, ◌≤◌, ⊤, [], None, Some, IfOk, IfSome, MatchBool, MatchOption, OnOk, length, min, vec_len};
+ghost use Rattle.std.specs.Prelude.{◌≡◌, ℕ, ◌+◌, ◌<◌, ◌≤◌, ⊤, List, [], None, Some, IfOk, IfSome, MatchBool, MatchOption, OnOk, length, min, vec_len};
 ghost use Rattle.std.specs.Io.KnownBytes.{Appends};
 ghost use Rattle.ptk_words.specs.declared.TheConstants.{LAST_TICK, THREAD_LIMIT};
 ghost use Rattle.ptk_main_runs.specs.World.{at_tick, but_next, state_of};
 ghost use Rattle.ptk_timeline_formats.specs.declared.sheet.Form.TheVariants.{Vcd, Events};
+ghost use Rattle.ptk_timeline_formats.specs.Runs.{IsStretch, IsWindow};
 ghost use Rattle.ptk_timeline_formats.specs.Shown.{AreShown, kept_in, runner_shown, start_in, status_shown};
 ghost use Rattle.ptk_timeline_formats.specs.Steps.{is_step_over, step_since, step_within, tick_behind_step};
-ghost use Rattle.ptk_timeline_formats.specs.Texts.{first_text, part_text};
+ghost use Rattle.ptk_timeline_formats.specs.Texts.{first_text, part_behind, part_text};
 ghost use Rattle.ptk_timeline_formats.specs.Traces.{decision_events, first_events, last_events, lost_events, part_events};
 
 use crate::change::{Change, ShownSince};
@@ -71,6 +72,7 @@ impl PartView {
         ensures within { sheet.new.at ≤ sheet.old.at }
         ensures to { sheet.new.to ≡ sheet.old.to }
         ensures form { sheet.new.form ≡ sheet.old.form }
+        ensures reached { sheet.old.form ≡ Vcd → OnOk result (sheet.new.at ≡ sheet.old.at) }
         ensures dump { sheet.old.form ≡ Vcd → OnOk result (Appends (W.contents out.old) (W.contents out.new) (first_text p self.now)) }
         ensures symbols { sheet.new.symbols.now ≡ sheet.old.symbols.now }
         ensures events { sheet.old.form ≡ Events → OnOk result (Appends (W.contents out.old) (W.contents out.new)
@@ -136,18 +138,49 @@ impl PartView {
         ensures form { sheet.new.form ≡ sheet.old.form }
         ensures symbols { sheet.new.symbols.now ≡ sheet.old.symbols.now }
         ensures config { system.new.config ≡ system.old.config }
+        ensures dump { sheet.old.form ≡ Vcd → OnOk result ((lines : List ℕ) × Appends (W.contents out.old) (W.contents out.new) lines
+            × IsWindow p from end system.old system.new sheet.old.at sheet.new.at self.old self.new lines) }
     {
         self.step = None;
         let mut tick = due(system, p, from, end);
         while tick < end {
-            system.run_to(Tick::new(tick + 1));
-            self.decide(system, p, tick, end, sheet, out)?;
-            system.compute_to(Tick::new(end));
-            let begin = self.go_on(system, p, tick, end, sheet, out)?;
-            tick = due(system, p, system.tick().ticks().max(begin).min(end), end);
-            self.settle(system, p, tick, end, sheet, out)?;
+            tick = self.stretch(system, p, tick, end, sheet, out)?;
         }
         Ok(())
+    }
+
+    /// Goes on from a tick of a window at which something can change, and writes what changes. Gives the next such tick.
+    fn stretch<W: Write>(
+        &mut self,
+        system: &mut System<'_>,
+        p: PartId,
+        tick: u64,
+        end: u64,
+        sheet: &mut Sheet<'_, '_>,
+        out: &mut W,
+    ) -> Result<u64, PutFault>
+        requires partition { p < length system.old.config.sections }
+        requires at { sheet.old.at ≤ tick }
+        requires order { tick < end }
+        requires early { end ≤ LAST_TICK }
+        requires to { end ≤ sheet.old.to }
+        ensures on { IfOk result (λ next. (tick < next) × (next ≤ end) × (sheet.new.at ≤ next)) }
+        ensures within { sheet.new.at ≤ end }
+        ensures to { sheet.new.to ≡ sheet.old.to }
+        ensures form { sheet.new.form ≡ sheet.old.form }
+        ensures config { system.new.config ≡ system.old.config }
+        ensures symbols { sheet.new.symbols.now ≡ sheet.old.symbols.now }
+        ensures dump { sheet.old.form ≡ Vcd → IfOk result (λ next. (lines : List ℕ) × Appends (W.contents out.old) (W.contents out.new) lines
+            × IsStretch p end (record { world = system.old; due = tick; at = sheet.old.at; view = self.old })
+            (record { world = system.new; due = next; at = sheet.new.at; view = self.new }) lines) }
+    {
+        system.run_to(Tick::new(tick + 1));
+        self.decide(system, p, tick, end, sheet, out)?;
+        system.compute_to(Tick::new(end));
+        let begin = self.go_on(system, p, tick, end, sheet, out)?;
+        let next = due_behind(system, p, begin, end);
+        self.settle(system, p, next, end, sheet, out)?;
+        Ok(next)
     }
 
     /// Nothing of the partition changes before the tick `due`: where the step ends before that tick, or none comes in
@@ -169,6 +202,10 @@ impl PartView {
         ensures within { sheet.new.at ≤ due }
         ensures to { sheet.new.to ≡ sheet.old.to }
         ensures form { sheet.new.form ≡ sheet.old.form }
+        ensures reached { sheet.old.form ≡ Vcd → MatchBool (is_step_over due end self.old.step)
+            (OnOk result (sheet.new.at ≡
+            part_behind ⟦<PartStatus as PartialEq>⟧.eq ⟦<Option<ThreadNo> as PartialEq>⟧.eq ⟦<Shown as PartialEq>⟧.eq
+            None (state_of system.now p).part sheet.old.at (tick_behind_step due self.old.step) self.old)) ⊤ }
         ensures step { self.new.step ≡ self.old.step }
         ensures kept { MatchBool (is_step_over due end self.old.step)
             (self.new ≡ record self.old { status = status_shown None (state_of system.now p).part; runner = runner_shown None (state_of system.now p).part; threads = self.new.threads })
@@ -213,6 +250,9 @@ impl PartView {
         ensures within { sheet.new.at ≤ tick }
         ensures to { sheet.new.to ≡ sheet.old.to }
         ensures form { sheet.new.form ≡ sheet.old.form }
+        ensures reached { sheet.old.form ≡ Vcd → OnOk result (sheet.new.at ≡
+            part_behind ⟦<PartStatus as PartialEq>⟧.eq ⟦<Option<ThreadNo> as PartialEq>⟧.eq ⟦<Shown as PartialEq>⟧.eq
+            (step_since self.old.steps tick end (state_of system.now p)) (state_of system.now p).part sheet.old.at tick self.old) }
         ensures step { OnOk result (IfSome self.new.step (λ step. (tick < step.until) × (step.until ≤ end))) }
         ensures kept { OnOk result (self.new ≡
             kept_in (step_since self.old.steps tick end (state_of system.now p)) (state_of system.now p) self.new) }
@@ -256,6 +296,11 @@ impl PartView {
         ensures within { sheet.new.at ≤ end }
         ensures to { sheet.new.to ≡ sheet.old.to }
         ensures form { sheet.new.form ≡ sheet.old.form }
+        ensures reached { let begin = tick_behind_step tick self.old.step in
+            sheet.old.form ≡ Vcd → IfSome (step_within self.old.steps begin end (state_of system.now p))
+            (λ step. OnOk result (sheet.new.at ≡
+            part_behind ⟦<PartStatus as PartialEq>⟧.eq ⟦<Option<ThreadNo> as PartialEq>⟧.eq ⟦<Shown as PartialEq>⟧.eq
+            (Some step) (state_of system.now p).part sheet.old.at begin self.old)) }
         ensures behind { IfOk result (λ begin. begin ≡ tick_behind_step tick self.old.step) }
         ensures kept { let begin = tick_behind_step tick self.old.step in
             MatchOption (step_within self.old.steps begin end (state_of system.now p))
@@ -309,6 +354,9 @@ impl PartView {
         ensures shown { OnOk result (AreShown step.now (state_of system.now p).part self.new.threads.items) }
         ensures count { vec_len self.new.threads ≡ vec_len self.old.threads }
         ensures form { sheet.new.form ≡ sheet.old.form }
+        ensures reached { sheet.old.form ≡ Vcd → OnOk result (sheet.new.at ≡
+            part_behind ⟦<PartStatus as PartialEq>⟧.eq ⟦<Option<ThreadNo> as PartialEq>⟧.eq ⟦<Shown as PartialEq>⟧.eq
+            step.now (state_of system.now p).part sheet.old.at tick self.old) }
         ensures dump { sheet.old.form ≡ Vcd → OnOk result (Appends (W.contents out.old) (W.contents out.new)
             (part_text ⟦<PartStatus as PartialEq>⟧.eq ⟦<Option<ThreadNo> as PartialEq>⟧.eq ⟦<Shown as PartialEq>⟧.eq
             step.now (state_of system.now p).part sheet.old.at tick p self.old)) }
@@ -346,6 +394,7 @@ impl PartView {
         ensures step { self.new.step ≡ self.old.step }
         ensures kept { self.new ≡ record self.old { lost = (state_of system.now p).account.lost; dropped = (state_of system.now p).part.console.dropped } }
         ensures form { sheet.new.form ≡ sheet.old.form }
+        ensures reached { sheet.old.form ≡ Vcd → OnOk result (sheet.new.at ≡ sheet.old.at) }
         ensures dump { sheet.old.form ≡ Vcd → OnOk result (Appends (W.contents out.old) (W.contents out.new) []) }
         ensures symbols { sheet.new.symbols.now ≡ sheet.old.symbols.now }
         ensures events { sheet.old.form ≡ Events → OnOk result (Appends (W.contents out.old) (W.contents out.new)
@@ -374,6 +423,20 @@ fn due(system: &System<'_>, p: PartId, tick: u64, end: u64) -> u64
         but_next (state_of (at_tick k system.now) p) ≡ but_next (state_of system.now p) }
 {
     system.stays_until(p, Tick::new(end)).ticks().max(tick)
+}
+
+/// The first tick from this one and from the system's on, up to the end of the partition's window, at which something
+/// of it can change.
+fn due_behind(system: &System<'_>, p: PartId, begin: u64, end: u64) -> u64
+    requires partition { p < length system.now.config.sections }
+    requires order { begin ≤ end }
+    ensures from { begin ≤ result }
+    ensures to { result ≤ end }
+    ensures still { (k : ℕ) → system.now.tick < k → begin < k → k ≤ result →
+        but_next (state_of (at_tick k system.now) p) ≡ but_next (state_of system.now p) }
+{
+    let tick = system.tick().ticks().max(begin).min(end);
+    due(system, p, tick, end)
 }
 
 /// The pc of a thread at tick 0, at which it has not begun; None at another tick.

@@ -11,7 +11,7 @@ use Rattle.ptk_timeline_formats.specs.Events.{numbered_events, threads_events}
 use Rattle.ptk_timeline_formats.specs.Shown.{is_step_of, shown_in}
 use Rattle.ptk_timeline_formats.specs.Texts.{thread_text}
 use Rattle.ptk_timeline_formats.proofs.Lists.{set_more}
-use Rattle.ptk_timeline_formats.proofs.Texts.{AreThreadTexts, no_thread, one_thread, all_threads}
+use Rattle.ptk_timeline_formats.proofs.Texts.{AreThreadTexts, no_thread, one_thread, all_reached, all_threads}
 use Rattle.ptk_timeline_formats.proofs.Traces.{thread_traced}
 use Rattle.ptk_timeline_formats.proofs.Written.{all_numbered, numbered_more}
 use Rattle.ptk_timeline_formats.proofs.threads.show_threads.Goals as goal
@@ -69,6 +69,13 @@ loop-i-preserved g c =
           (get_or c.loop-i.threads c.loop-i.i c.index-threads-i.result) (g.W.Write.contents c.loop-i.out) (g.W.Write.contents c.show_thread.new.out) c.loop-i.invariant.symbols
           (c.in_ok-threads.ensures.events (c.loop-i.invariant.form ∙ traced)));
     }
+
+pub returns-clause-reached : goal.returns-clause-reached
+returns-clause-reached g c = λ vcd.
+    let past : length (take THREAD_LIMIT c.args.threads.now) ≤ c.loop-i.i = omega (arith, length-take THREAD_LIMIT c.args.threads.now) in
+    all_reached (shown_eq.ghosts).eq (λ (t : ℕ). shown_in (is_step_of c.args.step.now t) t (state_of c.args.system.now c.args.p).part) c.args.tick c.args.p
+    (take THREAD_LIMIT c.args.threads.now) (g.W.Write.contents c.args.out.now) (g.W.Write.contents c.loop-i.out) c.args.sheet.now.at c.loop-i.sheet.at c.loop-i.i past
+    (c.loop-i.invariant.texts vcd)
 
 pub returns-clause-dump : goal.returns-clause-dump
 returns-clause-dump g c = λ vcd.

@@ -8,6 +8,13 @@ use Rattle.ptk_timeline_formats.specs.Holders.{closing_events, closing_lines, is
 use Rattle.ptk_timeline_formats.specs.Signals.{change_lines}
 use Rattle.ptk_timeline_formats.proofs.board.Board.open_window.Goals as goal
 
+pub returns-clause-reached : goal.returns-clause-reached
+returns-clause-reached g c = λ vcd.
+    let closed : is_open c.args.p c.args.self.now.holder ≡ false = sym c.is_open.ensures ∙ c.if-is_open.false in
+    on_ok_weaker c.put.result
+    (λ last. subst (λ (b : Bool). c.put.new.self.at ≡ (if b then c.args.sheet.now.at else c.args.tick)) (sym closed) (c.put.ensures.behind (c.close_window.ensures.form ∙ vcd)))
+    (c.put.ensures.dump (c.close_window.ensures.form ∙ vcd))
+
 pub returns-clause-dump : goal.returns-clause-dump
 returns-clause-dump g c = λ vcd.
     let closed : is_open c.args.p c.args.self.now.holder ≡ false = sym c.is_open.ensures ∙ c.if-is_open.false in

@@ -1,8 +1,21 @@
-use Rattle.std.proofs.Common.{◌≡◌, ◌-◌, ◌≤◌}
+use Rattle.std.proofs.Common.{◌≡◌, ◌-◌, ◌≤◌, ℕ, List}
+use Rattle.std.specs.Io.KnownBytes.{Appends}
+use Rattle.ptk_timeline_formats.specs.declared.sheet.Form.TheVariants.{Vcd}
+use Rattle.ptk_timeline_formats.specs.Runs.{AreTurns}
 use Rattle.ptk_timeline_formats.proofs.board.Board.run.Given as goal
 
 abbrev pub invariant-loop-tick : goal.invariant-loop-tick
-invariant-loop-tick g l = (l.sheet.at ≤ l.tick) × (l.sheet.at ≤ l.to) × (l.tick ≤ l.to) × (l.sheet.to ≡ l.to) × (l.to ≡ l.initial.sheet.to)
+invariant-loop-tick g l = record {
+  from : l.sheet.at ≤ l.tick;
+  before : l.sheet.at ≤ l.to;
+  within : l.tick ≤ l.to;
+  to : l.sheet.to ≡ l.to;
+  same : l.to ≡ l.initial.sheet.to;
+  form : l.sheet.form ≡ l.initial.sheet.form;
+  goes : l.initial.sheet.form ≡ Vcd → (lines : List ℕ) × Appends (g.W.Write.contents l.initial.out) (g.W.Write.contents l.out) lines
+      × AreTurns l.config l.to l.initial.tick
+      (record { world = l.initial.system; at = l.initial.sheet.at; board = l.initial.self }) l.tick (record { world = l.system; at = l.sheet.at; board = l.self }) lines;
+}
 
 abbrev pub decreases-loop-tick : goal.decreases-loop-tick
 decreases-loop-tick g l = l.to - l.tick

@@ -10,10 +10,17 @@ use Rattle.ptk_timeline_formats.specs.declared.step.Step.{Step}
 use Rattle.ptk_timeline_formats.specs.declared.view.PartView.{PartView}
 use Rattle.ptk_timeline_formats.specs.contracts.shown.DoingPartialEq.TheImpl as doing_eq
 use Rattle.ptk_timeline_formats.specs.contracts.shown.ShownPartialEq.TheImpl as shown_eq
-use Rattle.ptk_timeline_formats.specs.Texts.{part_text}
+use Rattle.ptk_timeline_formats.specs.Texts.{part_behind, part_text}
 use Rattle.ptk_timeline_formats.specs.Traces.{decision_events, lost_events, part_events}
 use Rattle.ptk_timeline_formats.proofs.Traces.{lost_kept}
 use Rattle.ptk_timeline_formats.proofs.view.PartView.decide.Goals as goal
+
+pub returns-clause-reached : goal.returns-clause-reached
+returns-clause-reached g c = λ vcd.
+    c.in_ok-mark.ensures.reached (c.show.ensures.form ∙ vcd)
+    ∙ (c.in_ok-show.ensures.reached vcd
+    ∙ ap (λ (step : Option Step). part_behind (status_eq.ghosts).eq (option_eq (number_eq.ghosts).eq) (shown_eq.ghosts).eq step (state_of c.args.system.now c.args.p).part c.args.sheet.now.at c.args.tick c.args.self.now)
+    c.since-step.ensures.step)
 
 pub returns-clause-dump : goal.returns-clause-dump
 returns-clause-dump g c = λ vcd.

@@ -1,11 +1,18 @@
-use Rattle.std.proofs.Common.{[], ◌∷◌, subst}
+use Rattle.std.proofs.Common.{[], ◌∷◌, ◌∙◌, subst}
 use Rattle.std.proofs.lemmas.Result.{IfOk-weaker, on_ok_weaker}
 use Rattle.std.specs.Io.KnownBytes.{Appends}
 use Rattle.ptk_main_runs.specs.World.{state_of}
 use Rattle.ptk_timeline_formats.specs.Signals.{changes_lines}
 use Rattle.ptk_timeline_formats.proofs.Lines.{no_lost_lines}
+use Rattle.ptk_timeline_formats.proofs.Reached.{lost_reached}
 use Rattle.ptk_timeline_formats.proofs.Traces.{lost_traced}
 use Rattle.ptk_timeline_formats.proofs.view.PartView.mark.Goals as goal
+
+pub returns-clause-reached : goal.returns-clause-reached
+returns-clause-reached g c = λ vcd.
+    on_ok_weaker c.put_each.result
+    (λ there. there ∙ lost_reached c.args.sheet.now.at c.args.tick _ _ _ _ c.then_some.result c.then_some-2.result c.then_some.ensures c.then_some-2.ensures)
+    (c.put_each.ensures.behind vcd)
 
 pub returns-clause-dump : goal.returns-clause-dump
 returns-clause-dump g c = λ vcd.

@@ -56,6 +56,11 @@ loop-i-preserved g c =
           (g.W.Write.contents c.loop-i.out) (g.W.Write.contents c.put.new.out) c.loop-i.invariant.symbols c.start_of-start.ensures (c.in_ok-put.ensures.events (c.loop-i.invariant.form ∙ traced)));
     }
 
+pub returns-clause-reached : goal.returns-clause-reached
+returns-clause-reached g c = λ vcd.
+    let first : c.put_each.new.self.form ≡ Vcd = c.put_each.ensures.form ∙ vcd in
+    c.loop-i.invariant.there first ∙ c.at-tick.ensures
+
 pub returns-clause-dump : goal.returns-clause-dump
 returns-clause-dump g c = λ vcd.
     let first : c.put_each.new.self.form ≡ Vcd = c.put_each.ensures.form ∙ vcd in

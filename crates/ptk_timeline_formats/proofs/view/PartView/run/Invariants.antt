@@ -1,10 +1,22 @@
-use Rattle.std.proofs.Common.{◌≡◌, ◌-◌, ◌≤◌}
+use Rattle.std.proofs.Common.{◌≡◌, ◌-◌, ◌≤◌, ℕ, List}
+use Rattle.std.specs.Io.KnownBytes.{Appends}
+use Rattle.ptk_timeline_formats.specs.declared.sheet.Form.TheVariants.{Vcd}
+use Rattle.ptk_timeline_formats.specs.Runs.{AreStretches}
 use Rattle.ptk_timeline_formats.proofs.view.PartView.run.Given as goal
 
 abbrev pub invariant-loop-tick : goal.invariant-loop-tick
-invariant-loop-tick g l =
-    (l.sheet.at ≤ l.tick) × (l.tick ≤ l.end) × (l.sheet.to ≡ l.initial.sheet.to) × (l.system.config ≡ l.initial.system.config)
-    × (l.sheet.form ≡ l.initial.sheet.form) × (l.sheet.symbols.now ≡ l.initial.sheet.symbols.now)
+invariant-loop-tick g l = record {
+  from : l.sheet.at ≤ l.tick;
+  within : l.tick ≤ l.end;
+  to : l.sheet.to ≡ l.initial.sheet.to;
+  config : l.system.config ≡ l.initial.system.config;
+  form : l.sheet.form ≡ l.initial.sheet.form;
+  symbols : l.sheet.symbols.now ≡ l.initial.sheet.symbols.now;
+  goes : l.initial.sheet.form ≡ Vcd → (lines : List ℕ) × Appends (g.W.Write.contents l.initial.out) (g.W.Write.contents l.out) lines
+      × AreStretches l.p l.end
+      (record { world = l.initial.system; due = l.initial.tick; at = l.initial.sheet.at; view = l.initial.self })
+      (record { world = l.system; due = l.tick; at = l.sheet.at; view = l.self }) lines;
+}
 
 abbrev pub decreases-loop-tick : goal.decreases-loop-tick
 decreases-loop-tick g l = l.end - l.tick

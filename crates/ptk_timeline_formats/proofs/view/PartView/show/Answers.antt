@@ -14,11 +14,29 @@ use Rattle.ptk_timeline_formats.specs.contracts.shown.DoingPartialEq.TheImpl as 
 use Rattle.ptk_timeline_formats.specs.contracts.shown.ShownPartialEq.TheImpl as shown_eq
 use Rattle.ptk_timeline_formats.specs.Events.{threads_events}
 use Rattle.ptk_timeline_formats.specs.Shown.{is_step_of, runner_shown, shown_in, status_shown}
-use Rattle.ptk_timeline_formats.specs.Texts.{part_text, threads_text}
+use Rattle.ptk_timeline_formats.specs.Texts.{part_text, threads_behind, threads_text}
 use Rattle.ptk_timeline_formats.specs.Traces.{part_events}
 use Rattle.ptk_timeline_formats.proofs.Texts.{change_if_other, part_written}
+use Rattle.ptk_timeline_formats.proofs.Reached.{part_reached}
 use Rattle.ptk_timeline_formats.proofs.Traces.{part_traced}
 use Rattle.ptk_timeline_formats.proofs.view.PartView.show.Goals as goal
+
+pub returns-clause-reached : goal.returns-clause-reached
+returns-clause-reached g c = λ vcd.
+    let status = status_shown c.args.step.now (state_of c.args.system.now c.args.p).part in
+    let runner = runner_shown c.args.step.now (state_of c.args.system.now c.args.p).part in
+    on_ok_weaker c.show_threads.result
+    (λ there. part_reached
+    (λ (at : ℕ) (threads : List ShownSince). threads_behind (shown_eq.ghosts).eq (λ (t : ℕ). shown_in (is_step_of c.args.step.now t) t (state_of c.args.system.now c.args.p).part) at c.args.tick 1
+    (take THREAD_LIMIT threads))
+    c.args.sheet.now.at c.put_each.new.self.at c.show_threads.new.sheet.at c.args.tick c.then_some.result c.then_some-2.result
+    (then_some (not ((status_eq.ghosts).eq status c.args.self.now.status)) (Status status))
+    (then_some (not (option_eq (number_eq.ghosts).eq runner c.args.self.now.runner)) (Runner runner))
+    c.as_mut_slice-threads.result.now c.args.self.now.threads.items
+    (change_if_other (status_eq.ghosts).eq Status c.then_some.result c.ne.result c.status_of-status.result status c.args.self.now.status c.then_some.ensures c.ne.ensures c.status_of-status.ensures)
+    (change_if_other (option_eq (number_eq.ghosts).eq) Runner c.then_some-2.result c.ne-2.result c.runner_of-runner.result runner c.args.self.now.runner c.then_some-2.ensures c.ne-2.ensures c.runner_of-runner.ensures)
+    (c.in_ok-put_each.ensures.behind vcd) c.as_mut_slice-threads.ensures.value there)
+    (c.show_threads.ensures.reached (c.put_each.ensures.form ∙ vcd))
 
 pub returns-clause-dump : goal.returns-clause-dump
 returns-clause-dump g c = λ vcd.

@@ -1,0 +1,225 @@
+-- A run from change to change, as a Value Change Dump has it.
+use Rattle.std.specs.Prelude.{◌≡◌, ◌≢◌, ℕ, ◌+◌, ◌<◌, ◌≤◌, ◌⊎◌, min, max, nat_lt, ◌&&◌, Bool, if◌then◌else◌, List, [], ◌++◌, Option, Some, None, MatchBool, MatchOption, length, slice_index_or, vec_len}
+use Rattle.std.specs.Io.KnownBytes.{Appends}
+use Rattle.std.specs.Option.{option_eq}
+use Rattle.ptk_words.specs.Names.{ThreadNumber}
+use Rattle.ptk_words.specs.contracts.numbers.ThreadNoPartialEq.TheImpl as number_eq
+use Rattle.ptk_words.specs.declared.TheConstants.{THREAD_LIMIT}
+use Rattle.ptk_words.specs.declared.sections.Entry.{Entry}
+use Rattle.ptk_words_windows.specs.Windows.{IsFirstOwn, IsOwn, IsOwnUntil, WindowPlan}
+use Rattle.ptk_words_model.specs.Priority.{effective_priority}
+use Rattle.ptk_words_model.specs.State.{Part, State}
+use Rattle.ptk_config.specs.Configuration.{Configuration}
+use Rattle.ptk_main_runs.specs.Activities.{activity_in}
+use Rattle.ptk_main_runs.specs.Activity.TheVariants.{Running}
+use Rattle.ptk_main_runs.specs.PartStatus.{PartStatus}
+use Rattle.ptk_main_runs.specs.World.{World, at_tick, but_next, section_at, state_of}
+use Rattle.ptk_main_runs.below.ptk_system.specs.contracts.status.PartStatusPartialEq.TheImpl as status_eq
+use Rattle.ptk_timeline_formats.specs.contracts.shown.ShownPartialEq.TheImpl as shown_eq
+use Rattle.ptk_timeline_formats.specs.declared.board.Board.{Board}
+use Rattle.ptk_timeline_formats.specs.declared.sheet.Form.TheVariants.{Vcd}
+use Rattle.ptk_timeline_formats.specs.declared.shown.Shown.{Shown}
+use Rattle.ptk_timeline_formats.specs.declared.step.Step.{Step}
+use Rattle.ptk_timeline_formats.specs.declared.view.PartView.{PartView}
+use Rattle.ptk_timeline_formats.specs.Dumps.{dump_head}
+use Rattle.ptk_timeline_formats.specs.Holders.{closing_lines, opened, opening_lines, tick_behind_closing, tick_behind_opening}
+use Rattle.ptk_timeline_formats.specs.Shown.{AreShown, kept_in, runner_shown, status_shown}
+use Rattle.ptk_timeline_formats.specs.Signals.{text_behind_first, tick_line}
+use Rattle.ptk_timeline_formats.specs.Steps.{is_step_over, step_since, step_within, tick_behind_step}
+use Rattle.ptk_timeline_formats.specs.Texts.{each_text, first_text, part_behind, part_text}
+
+-- the status is the same
+abbrev pub same_status : PartStatus → PartStatus → Bool
+same_status = (status_eq.ghosts).eq
+
+-- the running thread is the same
+abbrev pub same_runner : Option ThreadNumber → Option ThreadNumber → Bool
+same_runner = option_eq (number_eq.ghosts).eq
+
+-- what is shown of a thread is the same
+abbrev pub same_thread : Shown → Shown → Bool
+same_thread = (shown_eq.ghosts).eq
+
+-- ---- what is shown of a partition goes on
+
+-- what is shown of a partition goes from one view to another at a tick, while a step takes up its ticks: the dump has the lines of all that is not as before (own)
+pub record IsLook (p : ℕ) (step : Option Step) (s : Part) (tick at reached : ℕ) (before after : PartView) (lines : List ℕ) : Type 0 where
+  pub written : lines ≡ part_text same_status same_runner same_thread step s at tick p before
+  pub last : reached ≡ part_behind same_status same_runner same_thread step s at tick before
+  pub threads : AreShown step s after.threads.items
+  pub count : vec_len after.threads ≡ vec_len before.threads
+
+-- the view, with a status, a running thread and these threads shown while a step takes up its ticks
+abbrev pub shown_as : Option Step → Part → PartView → PartView → PartView
+shown_as step s view after = record view { status = status_shown step s; runner = runner_shown step s; threads = after.threads }
+
+-- the same, where the step is a new one
+abbrev pub stepped_as : Step → State → PartView → PartView → PartView
+stepped_as step s view after = record view {
+  status = status_shown (Some step) s.part;
+  runner = runner_shown (Some step) s.part;
+  threads = after.threads;
+  step = Some step;
+  steps = s.account.steps;
+}
+
+-- behind plain steps: the last of them is shown, if it goes on from this tick; else all is as it was (own)
+abbrev pub IsStepShown : ℕ → ℕ → State → ℕ → ℕ → PartView → PartView → List ℕ → Option Step → Type 0
+IsStepShown p tick s at reached before after lines step =
+    MatchOption step ((after ≡ before) × (reached ≡ at) × (lines ≡ []))
+    (λ (last : Step). IsLook p (Some last) s.part tick at reached before after lines × (after ≡ stepped_as last s before after))
+
+-- what a step has made of its thread is shown from its end on, if it is over; else all is as it was (own)
+abbrev pub IsEndShown : ℕ → ℕ → Part → ℕ → ℕ → PartView → PartView → List ℕ → Bool → Type 0
+IsEndShown p tick s at reached before after lines is_over =
+    MatchBool is_over (IsLook p None s tick at reached before after lines × (after ≡ shown_as None s before after))
+    ((after ≡ before) × (reached ≡ at) × (lines ≡ []))
+
+-- ---- a window
+
+-- from the system's tick on and up to another each thread of the partition does what it did, with the same effective priority, and each step is of the thread that ran then (own)
+pub record IsSteady (world : World) (p to : ℕ) : Type 0 where
+  pub does : (k t : ℕ) → world.tick ≤ k → k ≤ to → activity_in t (state_of (at_tick k world) p).part ≡ activity_in t (state_of world p).part
+  pub priority : (k t : ℕ) → world.tick ≤ k → k ≤ to → effective_priority (state_of (at_tick k world) p).part.locks t ≡ effective_priority (state_of world p).part.locks t
+  pub steps : (k : ℕ) → world.tick ≤ k → k < to → (state_of (at_tick k world) p).account.steps < (state_of (at_tick (k + 1) world) p).account.steps
+      → (entry : Entry) → (state_of (at_tick (k + 1) world) p).part.last ≡ Some entry → activity_in entry.thread (state_of world p).part ≡ Running
+
+-- how far a dump has come in a window: the system, the next tick at which something of the partition can change, the tick of the dump's last line, and what is shown
+pub record Scene : Type 0 where
+  pub world : World
+  pub due : ℕ
+  pub at : ℕ
+  pub view : PartView
+
+-- from a tick at which something of a partition can change to the next in a window: the decision at the tick is made and shown; then plain steps are made, over which each thread does what it did, and the last is shown; then nothing changes up to the next such tick (own)
+pub record IsStretch (p end : ℕ) (before after : Scene) (lines : List ℕ) : Type 0 where
+  pub first : World
+  pub decided : PartView
+  pub stepped : PartView
+  pub decided_at : ℕ
+  pub stepped_at : ℕ
+  pub of_decision : List ℕ
+  pub of_step : List ℕ
+  pub of_end : List ℕ
+  pub text : lines ≡ of_decision ++ of_step ++ of_end
+  pub decides : first ≡ at_tick (max before.world.tick (before.due + 1)) before.world
+  pub decision : IsLook p (step_since before.view.steps before.due end (state_of first p)) (state_of first p).part before.due before.at decided_at before.view decided of_decision
+  pub kept : decided ≡ kept_in (step_since before.view.steps before.due end (state_of first p)) (state_of first p) decided
+  pub goes_on : after.world ≡ at_tick after.world.tick first
+  pub steady : IsSteady first p after.world.tick
+  pub step : IsStepShown p (tick_behind_step before.due decided.step) (state_of after.world p) decided_at stepped_at decided stepped of_step
+      (step_within decided.steps (tick_behind_step before.due decided.step) end (state_of after.world p))
+  pub over : IsEndShown p (tick_behind_step after.due stepped.step) (state_of after.world p).part stepped_at after.at stepped after.view of_end (is_step_over after.due end stepped.step)
+  pub still : (k : ℕ) → after.world.tick < k → tick_behind_step before.due decided.step < k → k ≤ after.due → but_next (state_of (at_tick k after.world) p) ≡ but_next (state_of after.world p)
+
+-- such stretches, one after another, from a scene on, before the window's end (own)
+pub data AreStretches (p end : ℕ) (from : Scene) : Scene → List ℕ → Type 0 where
+  no_stretch : AreStretches p end from from []
+  one_stretch : {now next : Scene} {before lines : List ℕ} → AreStretches p end from now before → now.due < end → IsStretch p end now next lines
+      → AreStretches p end from next (before ++ lines)
+
+-- over a window of a partition, or the part of one, from a tick up to another: nothing changes up to the first tick at which something can, and from there on stretch follows stretch up to the end (own)
+pub record IsWindow (p from end : ℕ) (world later : World) (at reached : ℕ) (before after : PartView) (lines : List ℕ) : Type 0 where
+  pub first : ℕ
+  pub still : (k : ℕ) → world.tick ≤ k → from < k → k ≤ first → but_next (state_of (at_tick k world) p) ≡ but_next (state_of world p)
+  pub goes : AreStretches p end (record { world = world; due = first; at = at; view = record before { step = None } }) (record { world = later; due = end; at = reached; view = after }) lines
+
+-- ---- all partitions
+
+-- what is shown of a partition at the first tick: its status, its running thread and the threads that its section allows, at most 32, and no step (own)
+pub record IsFirstView (world : World) (p : ℕ) (view : PartView) : Type 0 where
+  pub kept : view ≡ kept_in None (state_of world p) view
+  pub threads : AreShown None (state_of world p).part view.threads.items
+  pub count : vec_len view.threads ≡ min (section_at world.config p).limits.threads THREAD_LIMIT
+
+-- so of each partition of a system, in their order (own)
+pub record AreFirstViews (world : World) (views : List PartView) : Type 0 where
+  pub count : length views ≡ length world.config.sections
+  pub each : (p : ℕ) (default : PartView) → p < length views → IsFirstView world p (slice_index_or views p default)
+
+-- how far a dump has come: the system, the tick of the dump's last line, and what is shown of all partitions
+pub record Stand : Type 0 where
+  pub world : World
+  pub at : ℕ
+  pub board : Board
+
+-- a partition has a view and a section
+abbrev pub has_view : ℕ → List PartView → World → Bool
+has_view p views world = nat_lt p (length views) && nat_lt p (length world.config.sections)
+
+-- over a window of a partition, its view goes on, and no other (own)
+pub record IsViewed (p from end : ℕ) (before after : Stand) (lines : List ℕ) : Type 0 where
+  pub view : PartView
+  pub behind : PartView
+  pub was : (default : PartView) → slice_index_or before.board.views.items p default ≡ view
+  pub is : (default : PartView) → slice_index_or after.board.views.items p default ≡ behind
+  pub others : (place : ℕ) (default : PartView) → place ≢ p → slice_index_or after.board.views.items place default ≡ slice_index_or before.board.views.items place default
+  pub count : length after.board.views.items ≡ length before.board.views.items
+  pub holder : after.board.holder ≡ before.board.holder
+  pub window : IsWindow p from end before.world after.world before.at after.at view behind lines
+
+-- a window of a partition is gone over; nothing is shown of one that has no view (own)
+abbrev pub IsGoneOver : ℕ → ℕ → ℕ → Stand → Stand → List ℕ → Type 0
+IsGoneOver p from end before after lines =
+    MatchBool (has_view p before.board.views.items before.world) (IsViewed p from end before after lines) ((after ≡ before) × (lines ≡ []))
+
+-- the stand behind the begin of a partition's window
+abbrev pub stand_opened : ℕ → ℕ → Stand → Stand
+stand_opened p tick stand = record stand { at = tick_behind_opening stand.at tick p stand.board.holder; board = record (stand.board) { holder = Some (opened p tick stand.board.holder) } }
+
+-- the stand behind the end of the window that was open
+abbrev pub stand_closed : ℕ → Stand → Stand
+stand_closed tick stand = record stand { at = tick_behind_closing stand.at tick stand.board.holder; board = record (stand.board) { holder = None } }
+
+-- of a tick in a window: the window is opened, if it is not open, and gone over to its end, or to the last tick (own)
+pub record IsOwnTurn (plan : WindowPlan) (tick to next : ℕ) (before after : Stand) (lines : List ℕ) : Type 0 where
+  pub p : ℕ
+  pub end : ℕ
+  pub shown : List ℕ
+  pub own : IsOwnUntil plan p tick end
+  pub up_to : next ≡ min end to
+  pub text : lines ≡ opening_lines before.at tick p before.board.holder ++ shown
+  pub window : IsGoneOver p tick next (stand_opened p tick before) after shown
+
+-- a tick behind this one, at most the last: no window of the first partitions is between, and it is the last or where the next begins that does not begin before (own)
+pub record IsNextStart (plan : WindowPlan) (parts tick to next : ℕ) : Type 0 where
+  pub nobody : (p k : ℕ) → p < parts → tick < k → k < next → ¬ IsOwn plan p k
+  pub is_one : (next ≡ to) ⊎ ((p : ℕ) × (n : ℕ) × (p < parts) × IsFirstOwn plan p tick n × (next ≡ max n (tick + 1)))
+
+-- of a tick in no window: the window that was open is closed, and nothing else changes up to the next window, or to the last tick (own)
+pub record IsFreeTurn (plan : WindowPlan) (parts tick to next : ℕ) (before after : Stand) (lines : List ℕ) : Type 0 where
+  pub nobody : (p : ℕ) → ¬ IsOwn plan p tick
+  pub up_to : IsNextStart plan parts tick to next
+  pub text : lines ≡ closing_lines before.at tick before.board.holder
+  pub closed : after ≡ stand_closed tick before
+
+-- from a tick on to the next at which a window begins or ends, at most the last tick (own)
+abbrev pub IsTurn : Configuration → ℕ → ℕ → ℕ → Stand → Stand → List ℕ → Type 0
+IsTurn config tick to next before after lines =
+    IsOwnTurn config.plan tick to next before after lines ⊎ IsFreeTurn config.plan (length config.sections) tick to next before after lines
+
+-- such turns, one after another, from a tick on, before the last tick (own)
+pub data AreTurns (config : Configuration) (to from : ℕ) (first : Stand) : ℕ → Stand → List ℕ → Type 0 where
+  no_turn : AreTurns config to from first from first []
+  one_turn : {tick next : ℕ} {now after : Stand} {before lines : List ℕ} → AreTurns config to from first tick now before → tick < to
+      → IsTurn config tick to next now after lines → AreTurns config to from first next after (before ++ lines)
+
+-- ---- a dump
+
+-- the line of the last tick, where the line before is of an earlier one (IEEE 1364-2005, 18.2.1)
+abbrev pub last_line : ℕ → ℕ → List ℕ
+last_line at to = if nat_lt at to then tick_line to else []
+
+-- a dump of a system from its tick on to another: its head, all that is shown at the first tick, then turn after turn what changes, and the last tick (IEEE 1364-2005, 18.2.1)
+pub record IsDump (config : Configuration) (world : World) (from to : ℕ) (text : List ℕ) : Type 0 where
+  pub board : Board
+  pub last : Stand
+  pub lines : List ℕ
+  pub views : AreFirstViews world board.views.items
+  pub holder : board.holder ≡ None
+  pub goes : AreTurns config to from (record { world = world; at = from; board = board }) to last lines
+  pub whole : text ≡ dump_head config.sections from ++ each_text first_text 0 board.views.items ++ text_behind_first Vcd ++ lines ++ last_line last.at to
+
+-- a dump of a system from its tick on to another is written (own)
+abbrev pub PutsDump : World → ℕ → ℕ → Option (List ℕ) → Option (List ℕ) → Type 0
+PutsDump world from to old new = (text : List ℕ) × Appends old new text × IsDump world.config world from to text
