@@ -3,3 +3,4 @@ pub mod Refusals
 pub mod Runs
 pub mod JsonTexts
 pub mod Documents
+pub mod TraceLines

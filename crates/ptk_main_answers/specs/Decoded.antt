@@ -1,11 +1,9 @@
 -- What stands behind a line of a decoded trace, and which lines are shown.
-use Rattle.std.specs.Prelude.{ℕ, ◌^◌, Bool, true, false, not, ◌&&◌, ◌||◌, List, [], ◌∷◌, ◌++◌, Option, Some, None, option_and_then, option_map, codes, ◌==◌, nat_le, nat_lt, if◌then◌else◌}
+use Rattle.std.specs.Prelude.{ℕ, Bool, true, false, not, ◌&&◌, ◌||◌, List, [], ◌∷◌, ◌++◌, Option, Some, None, codes, ◌==◌, nat_le, nat_lt, if◌then◌else◌}
 use Rattle.std.specs.List.{concat}
 use Rattle.ptk_words.specs.declared.TheConstants.{ECALL, LAST_TICK, RETURN_GATE}
 use Rattle.ptk_words.specs.declared.sections.Entry.{Entry}
 use Rattle.ptk_rv32i_code.specs.Coding.{decoded}
-use Rattle.ptk_asm_language.specs.Reading.{capped}
-use Rattle.ptk_asm_language.specs.Tokens.{magnitude}
 use Rattle.ptk_symbols.specs.Tables.{place_text}
 use Rattle.ptk_disasm.specs.Spelling.{statement_text}
 use Rattle.ptk_disasm.specs.WordStatements.{statement_for}
@@ -35,11 +33,3 @@ step_text symbols pc word =
 -- the symbol that is nearest to the pc, and the step (own)
 abbrev pub decoded_text : List (ℕ × List ℕ) → ℕ → ℕ → List ℕ
 decoded_text symbols pc word = concat (place_text symbols pc ∷ codes " " ∷ step_text symbols pc word ∷ [])
-
--- the word that a number is, None where it is greater (own)
-abbrev pub word_if : ℕ → Option ℕ
-word_if n = if nat_lt n (2 ^ 32) then Some n else None
-
--- the word that a text spells, None where it spells no number or a greater one (own)
-abbrev pub word_in : List ℕ → Option ℕ
-word_in text = option_and_then word_if (option_map capped (magnitude text))

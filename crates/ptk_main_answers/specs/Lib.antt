@@ -4,6 +4,7 @@ pub mod Answers
 pub mod Expectations
 pub mod Decoded
 pub mod Replies
+pub mod TraceLines
 pub mod HostFaults
 pub mod Json
 pub mod Documents

@@ -24,7 +24,7 @@
 //! - Of a trace in words `shows` is the definition's choice of steps (`is_shown`), and `push_step` appends the
 //!   definition's words of a step (`step_words`): those of its pc and word, and behind an ECALL the call by the state
 //!   before the step and the reply by the state behind it; `decoded_trace_with` refuses an unknown name as `trace_with`
-//!   does. How the numbers of a line are read is tested.
+//!   does. A line that is a step's is read as that step (`entry_in`: `step_line`).
 //!
 //! Each line of a trace in words is as the trace has it; behind two blanks and `#` are the symbol that is nearest to
 //! the step's pc and its instruction as the disassembler spells it; behind an ECALL the call's POSIX name and the name
