@@ -4,3 +4,4 @@ pub mod Runs
 pub mod JsonTexts
 pub mod Documents
 pub mod TraceLines
+pub mod Worded

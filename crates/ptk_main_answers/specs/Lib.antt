@@ -5,6 +5,7 @@ pub mod Expectations
 pub mod Decoded
 pub mod Replies
 pub mod TraceLines
+pub mod Worded
 pub mod HostFaults
 pub mod Json
 pub mod Documents

@@ -1,5 +1,5 @@
 -- What stands in a decoded trace behind a step that is a call: the call, and what it replied.
-use Rattle.std.specs.Prelude.{ℕ, not, ◌&&◌, ◌+◌, max, ◌%◌, ◌^◌, List, [], ◌∷◌, ◌++◌, Option, Some, None, codes, decimal, find, option_map, ◌==◌, if◌then◌else◌}
+use Rattle.std.specs.Prelude.{ℕ, Bool, not, ◌&&◌, ◌+◌, max, ◌%◌, ◌^◌, List, [], ◌∷◌, ◌++◌, Option, Some, None, codes, decimal, find, ◌==◌, if◌then◌else◌}
 use Rattle.std.specs.Option.{option_eq}
 use Rattle.ptk_words.specs.Calls.{call_of}
 use Rattle.ptk_words.specs.Faults.{errno_number}
@@ -89,16 +89,30 @@ reply_by Halted pc entry = reply.Never
 abbrev pub reply_in : Entry → Part → Reply
 reply_in entry s = reply_by (activity_in entry.thread s) (pc_in entry.thread s) entry
 
+-- a system that has gone on to a step from no later tick (own)
+abbrev pub before_step : World → Entry → World
+before_step world entry = at_tick (max world.tick entry.tick) world
+
+-- a system that has gone on over a step from no later tick (own)
+abbrev pub behind_step : World → Entry → World
+behind_step world entry = at_tick (max (before_step world entry).tick (entry.tick + 1)) (before_step world entry)
+
 -- the call that a step makes and its reply, in a system that goes on over the step from no later tick (own)
 abbrev pub made_text : World → ℕ → Entry → List ℕ
 made_text world p entry =
-    let before : World = at_tick (max world.tick entry.tick) world in
-    let behind : World = at_tick (max before.tick (entry.tick + 1)) before in
-    call_text (register_in entry.thread A7 (state_of before p).part) ++ reply_text (reply_in entry (state_of behind p).part)
+    call_text (register_in entry.thread A7 (state_of (before_step world entry) p).part) ++ reply_text (reply_in entry (state_of (behind_step world entry) p).part)
 
--- the call behind a step that is an ECALL, but at the return gate; nothing behind another (RISC-V 2.8; own)
+-- a step makes a call: it is an ECALL, but not at the return gate (RISC-V 2.8; own)
+abbrev pub makes_call : Entry → Bool
+makes_call entry = entry.word == ECALL && not (entry.pc == RETURN_GATE)
+
+-- the call behind a step that makes one; nothing behind another (own)
 abbrev pub call_behind : World → ℕ → Entry → List ℕ
-call_behind world p entry = if entry.word == ECALL && not (entry.pc == RETURN_GATE) then made_text world p entry else []
+call_behind world p entry = if makes_call entry then made_text world p entry else []
+
+-- a system behind the words of a step: it goes on over a step that makes a call (own)
+abbrev pub behind_words : World → Entry → World
+behind_words world entry = if makes_call entry then behind_step world entry else world
 
 -- a step in words (own)
 abbrev pub step_words : World → ℕ → List (ℕ × List ℕ) → Entry → List ℕ

@@ -1,12 +1,13 @@
 //! The answers to a trace: its lines as they are, or in words.
 
-ghost use Rattle.std.specs.Prelude.{◌≡◌, ◌≤◌, None, OnOk, MatchResult};
+ghost use Rattle.std.specs.Prelude.{◌≡◌, ◌≤◌, ℕ, None, OnOk, MatchResult};
 ghost use Rattle.std.specs.Io.KnownBytes.{Appends};
 ghost use Rattle.ptk_words.specs.declared.TheConstants.{LAST_TICK};
 ghost use Rattle.ptk_main_runs.specs.World.{world_at};
 ghost use Rattle.ptk_main_runs.specs.Parts.{part_named};
 ghost use Rattle.ptk_main_answers.specs.Answers.{trace_of};
 ghost use Rattle.ptk_main_answers.specs.Refusals.{IsFaultOf, refused_trace};
+ghost use Rattle.ptk_main_answers.specs.Worded.{PutsWords};
 
 use crate::decoding::decoded_trace_with;
 use crate::filter::Filter;
@@ -41,9 +42,9 @@ pub fn trace_answer<'a, W: Write>(
     }
 }
 
-/// The lines of the last steps of the partition of this name that the filter shows, in words. Which of them it shows
-/// and what is behind each is for `decoded_trace_with` to say. `Fault::NoPartition` where no partition has the name,
-/// else `Fault::MissingFile` for the first image that is not there, `Fault::NoMemory` or `Fault::WriteFailed`.
+/// The lines of the last steps of the partition of this name that the filter shows, in words, as `decoded_trace_with`
+/// writes them. `Fault::NoPartition` where no partition has the name, else `Fault::MissingFile` for the first image
+/// that is not there, `Fault::NoMemory` or `Fault::WriteFailed`.
 pub fn decoded_answer<'a, W: Write>(
     alloc: Global,
     config: &'a Config,
@@ -55,6 +56,8 @@ pub fn decoded_answer<'a, W: Write>(
     out: &mut W,
 ) -> Result<(), Fault<'a>>
     requires { ticks ≤ LAST_TICK }
+    ensures words { OnOk result ((p : ℕ) → part_named config.now name.now ≡ Some p →
+        PutsWords filter.now symbols.now config.now files.now ticks p (W.contents out.old) (W.contents out.new)) }
     ensures refused { let refusal = refused_trace (part_named config.now name.now) config.now files.now name.now in
         MatchResult result (λ _. refusal ≡ None) (IsFaultOf refusal refusal) }
 {

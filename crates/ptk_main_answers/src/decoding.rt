@@ -1,13 +1,18 @@
 //! The trace of a partition in words.
 
-ghost use Rattle.std.specs.Prelude.{◌≡◌, ◌≢◌, ◌<◌, ◌≤◌, ◌++◌, None, IfErr, MatchResult, OnOk, IsSome, codes, length};
+ghost use Rattle.std.specs.Prelude.{◌≡◌, ◌≢◌, ◌<◌, ◌≤◌, ℕ, All, List, None, IfErr, IfOk, MatchResult, OnOk, IsSome, length};
 ghost use Rattle.std.specs.Io.KnownBytes.{Appends};
 ghost use Rattle.ptk_words.specs.declared.TheConstants.{LAST_TICK};
+ghost use Rattle.ptk_words.specs.declared.sections.Entry.{Entry};
+ghost use Rattle.ptk_words_model.specs.Text.{trace_text};
 ghost use Rattle.ptk_main_runs.specs.Missing.{first_missing};
 ghost use Rattle.ptk_main_runs.specs.declared.runs.RunFault.TheVariants.{NoPartition};
 ghost use Rattle.ptk_main_runs.specs.Parts.{part_named};
 ghost use Rattle.ptk_main_runs.specs.RunFaults.{missing_in_run};
+ghost use Rattle.ptk_main_runs.specs.World.{state_of, world_at};
 ghost use Rattle.ptk_main_answers.specs.HostFaults.{IsOfHost};
+ghost use Rattle.ptk_main_answers.specs.TraceLines.{IsTraced, step_line};
+ghost use Rattle.ptk_main_answers.specs.Worded.{PutsWords, behind_line, shown_line, worded_text, words_behind};
 
 use crate::entries::entry_in;
 use crate::filter::Filter;
@@ -42,6 +47,8 @@ pub fn decoded_trace_with<W: Write>(
     out: &mut W,
 ) -> Result<(), RunFault>
     requires { ticks ≤ LAST_TICK }
+    ensures words { OnOk result ((p : ℕ) → part_named config.now name.now ≡ Some p →
+        PutsWords filter.now symbols.now config.now files.now ticks p (W.contents out.old) (W.contents out.new)) }
     ensures known { OnOk result (IsSome (part_named config.now name.now)) }
     ensures unknown { IfErr result (λ fault. fault ≡ NoPartition → part_named config.now name.now ≡ None) }
     ensures first { IfErr result (λ fault. part_named config.now name.now ≡ None → fault ≡ NoPartition) }
@@ -78,6 +85,8 @@ fn lines_of(
     name: &str,
 ) -> Result<Vec<u8>, RunFault>
     requires { ticks ≤ LAST_TICK }
+    ensures lines { IfOk result (λ lines. (p : ℕ) → part_named config.now name.now ≡ Some p →
+        lines.items ≡ trace_text (state_of (world_at config.now files.now ticks) p).account.trace) }
     ensures known { OnOk result (IsSome (part_named config.now name.now)) }
     ensures unknown { IfErr result (λ fault. fault ≡ NoPartition → part_named config.now name.now ≡ None) }
     ensures first { IfErr result (λ fault. part_named config.now name.now ≡ None → fault ≡ NoPartition) }
@@ -104,7 +113,9 @@ fn put_lines<W: Write>(
     out: &mut W,
 ) -> Result<(), RunFault>
     requires { p < length system.old.config.sections }
-    ensures { IfErr result IsOfHost }
+    ensures words { OnOk result ((steps : List Entry) → All IsTraced steps → lines.now ≡ trace_text steps →
+        Appends (W.contents out.old) (W.contents out.new) (worded_text filter.now system.old p symbols.now steps)) }
+    ensures known { IfErr result IsOfHost }
 {
     let mut rest = lines;
     while !rest.is_empty() {
@@ -127,6 +138,9 @@ fn put_line<W: Write>(
 ) -> Result<(), RunFault>
     requires { p < length system.old.config.sections }
     ensures same { system.new.config ≡ system.old.config }
+    ensures words { OnOk result ((e : Entry) → IsTraced e → line.now ≡ step_line e →
+        (system.new ≡ behind_line filter.now system.old e)
+        × Appends (W.contents out.old) (W.contents out.new) (shown_line filter.now system.old p symbols.now e)) }
     ensures known { IfErr result IsOfHost }
 {
     let Some(entry) = entry_in(line) else {
@@ -147,7 +161,7 @@ fn put_line<W: Write>(
 
 /// Writes a line as it is, and its words behind two blanks and `#`. An error where the writer fails.
 fn put_pieces<W: Write>(line: &[u8], words: &[u8], out: &mut W) -> io::Result<()>
-    ensures { OnOk result (Appends (W.contents out.old) (W.contents out.new) (line.now ++ (codes "  #" ++ (words.now ++ codes "\n")))) }
+    ensures { OnOk result (Appends (W.contents out.old) (W.contents out.new) (words_behind line.now words.now)) }
 {
     out.write_all(line)?;
     out.write_all(b"  #")?;

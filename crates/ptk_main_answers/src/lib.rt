@@ -20,11 +20,12 @@
 //! - `check_document` writes the answer to a check as JSON: `ok`, or the line of the fault, and the explanation
 //!   (`written`).
 //! - `explain_with` returns a text's first fault with its place, and writes what `explain` does (`written`).
-//! - `decoded_answer` promises its refusals alone.
 //! - Of a trace in words `shows` is the definition's choice of steps (`is_shown`), and `push_step` appends the
 //!   definition's words of a step (`step_words`): those of its pc and word, and behind an ECALL the call by the state
-//!   before the step and the reply by the state behind it; `decoded_trace_with` refuses an unknown name as `trace_with`
-//!   does. A line that is a step's is read as that step (`entry_in`: `step_line`).
+//!   before the step and the reply by the state behind it. A line that is a step's is read as that step (`entry_in`:
+//!   `step_line`). So `decoded_trace_with` and `decoded_answer` write the definition's words of the steps of the trace
+//!   (`words`: `worded_text`), where each is one that a trace may have (`IsTraced`); that a run has no others is not
+//!   proved. An unknown name is refused as by `trace_with`.
 //!
 //! Each line of a trace in words is as the trace has it; behind two blanks and `#` are the symbol that is nearest to
 //! the step's pc and its instruction as the disassembler spells it; behind an ECALL the call's POSIX name and the name

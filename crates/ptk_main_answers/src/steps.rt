@@ -4,7 +4,7 @@ ghost use Rattle.std.specs.Prelude.{◌≡◌, ◌<◌, ◌++◌, OnOk, length, 
 ghost use Rattle.ptk_words.specs.declared.TheConstants.{LAST_TICK};
 ghost use Rattle.ptk_main_runs.specs.World.{state_of};
 ghost use Rattle.ptk_main_answers.specs.Decoded as is;
-ghost use Rattle.ptk_main_answers.specs.Replies.{call_text, made_text, number_text, reply_in, reply_text, step_words};
+ghost use Rattle.ptk_main_answers.specs.Replies.{behind_step, behind_words, call_text, made_text, number_text, reply_in, reply_text, step_words};
 
 use crate::replies::reply_name;
 use ptk_disasm::{push_target, push_word_statement, target_of};
@@ -116,6 +116,7 @@ fn push_made_call(
     requires partition { p < length system.old.config.sections }
     requires early { entry.now.tick < LAST_TICK }
     ensures same { system.new.config ≡ system.old.config }
+    ensures run { OnOk result (system.new ≡ behind_step system.old entry.now) }
     ensures call { OnOk result (string_bytes text.new ≡ string_bytes text.old ++ made_text system.old p entry.now) }
 {
     system.run_to(entry.tick);
@@ -135,6 +136,7 @@ pub(crate) fn push_step(
     requires partition { p < length system.old.config.sections }
     requires early { entry.now.tick < LAST_TICK }
     ensures same { system.new.config ≡ system.old.config }
+    ensures run { OnOk result (system.new ≡ behind_words system.old entry.now) }
     ensures step { OnOk result (string_bytes text.new ≡ string_bytes text.old ++ step_words system.old p symbols.now entry.now) }
 {
     push_decoded(text, symbols, entry.pc, entry.word)?;
