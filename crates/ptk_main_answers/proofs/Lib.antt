@@ -5,3 +5,4 @@ pub mod JsonTexts
 pub mod Documents
 pub mod TraceLines
 pub mod Worded
+pub mod Watching

@@ -2,6 +2,7 @@ pub mod Images
 pub mod Refusals
 pub mod Answers
 pub mod Expectations
+pub mod Watching
 pub mod Decoded
 pub mod Replies
 pub mod TraceLines

@@ -20,6 +20,8 @@
 //! - `check_document` writes the answer to a check as JSON: `ok`, or the line of the fault, and the explanation
 //!   (`written`).
 //! - `explain_with` returns a text's first fault with its place, and writes what `explain` does (`written`).
+//! - Who watches a run has seen ticks of it, each later than the one before and the last one its end (`watched`:
+//!   `HasWatched`).
 //! - Of a trace in words `shows` is the definition's choice of steps (`is_shown`), and `push_step` appends the
 //!   definition's words of a step (`step_words`): those of its pc and word, and behind an ECALL the call by the state
 //!   before the step and the reply by the state behind it. A line that is a step's is read as that step (`entry_in`:

@@ -1,12 +1,13 @@
 //! The answer to a run.
 
-ghost use Rattle.std.specs.Prelude.{◌≡◌, ◌≤◌, ◌<◌, ◌⊎◌, ℕ, None, IfErr, IfSome, OnOk, MatchResult, IsTrue, false};
+ghost use Rattle.std.specs.Prelude.{◌≡◌, ◌≤◌, ◌<◌, ◌⊎◌, ℕ, List, None, IfErr, IfSome, OnOk, MatchResult, IsTrue, false};
 ghost use Rattle.std.specs.Io.KnownBytes.{Appends};
 ghost use Rattle.ptk_words.specs.declared.TheConstants.{LAST_TICK};
 ghost use Rattle.ptk_main_runs.specs.World.{at_tick, world_at};
 ghost use Rattle.ptk_main_answers.specs.Expectations.{AreHalted, IsFailed, IsNoFailure, IsPassed, IsReported, IsUnlike, report_in};
 ghost use Rattle.ptk_main_answers.specs.HostFaults.{IsHostFault};
 ghost use Rattle.ptk_main_answers.specs.Refusals.{IsFaultOf, missing_image};
+ghost use Rattle.ptk_main_answers.specs.Watching.{HasWatched};
 
 use crate::document::put_document;
 use crate::expectation::{difference, first_failure};
@@ -27,8 +28,13 @@ const WATCH_STRIDE: u64 = 1 << 20;
 
 /// Who watches a run on its way.
 pub trait Watch {
+    /// What a look changes: who watches before it, the tick that the run has reached, the last one, and who watches
+    /// then. The default says nothing.
+    ghost sees: { Self → ℕ → ℕ → Self → Type 0 } = { λ _ _ _ _. Unit {0} };
+
     /// The run has reached a tick, and goes on to the last one.
-    fn reached(&mut self, tick: Tick, last: Tick);
+    fn reached(&mut self, tick: Tick, last: Tick)
+        ensures { sees self.old tick last self.new };
 }
 
 /// What is asked of a run.
@@ -64,6 +70,8 @@ pub fn run_answer<'a, V: Watch, W: Write>(
         IfSome question.now.expected (λ bytes. bytes.now ≡ report_in question.now.format (world_at config.now files.now question.now.ticks))) }
     ensures passed { OnOk result (question.now.until_halted ≡ false →
         IsNoFailure question.now.fail_on (world_at config.now files.now question.now.ticks)) }
+    ensures watched { OnOk result (question.now.until_halted ≡ false →
+        (ticks : List ℕ) × HasWatched V.sees question.now.ticks 0 question.now.ticks ticks watch.old watch.new) }
     ensures ended { OnOk result ((n : ℕ) × IsPassed question.now (world_at config.now files.now n) (W.contents out.old) (W.contents out.new)) }
     ensures refused { let refusal = missing_image config.now files.now in
         MatchResult result (λ _. refusal ≡ None) (λ fault. (refusal ≡ None) ⊎ IsFaultOf refusal refusal fault) }
@@ -90,6 +98,7 @@ fn run_watched<V: Watch>(system: &mut System<'_>, last: Tick, until_halted: bool
     ensures run { system.new ≡ at_tick system.new.tick system.old }
     ensures within { system.new.tick ≤ last }
     ensures end { (system.new.tick ≡ last) ⊎ (IsTrue until_halted × AreHalted system.new) }
+    ensures watched { (ticks : List ℕ) × HasWatched V.sees last system.old.tick system.new.tick ticks watch.old watch.new }
 {
     system.states_are_alone();
     let stride = if until_halted {
