@@ -4,6 +4,7 @@ use Rattle.std.specs.Borrow.{Bor}
 use Rattle.std.specs.Prelude.{MatchResult, OnOk, unwrap_or}
 use Rattle.ptk_symbols.specs.Tables.{table_of}
 use Rattle.ptk_config.specs.Configuration.{Configuration}
+use Rattle.ptk_timeline_formats.specs.Runs.{PutsDump}
 use Rattle.ptk_statistics.specs.Answered.{PutsRun}
 use Rattle.ptk_statistics.specs.Tables.{PutsTables}
 use Rattle.ptk_statistics.specs.declared.answer.Form.{Form as Figures}
@@ -11,7 +12,7 @@ use Rattle.ptk_statistics.specs.declared.answer.Form.TheVariants as figures
 use Rattle.ptk_explanation.specs.declared.answer.Form.{Form as Standing}
 use Rattle.ptk_explanation.specs.declared.answer.Form.TheVariants as standing
 use Rattle.ptk_main_line.specs.declared.requests.ExplainOptions.{ExplainOptions}
-use Rattle.ptk_main_line.specs.declared.requests.PictureFormat.TheVariants.{Svg}
+use Rattle.ptk_main_line.specs.declared.requests.PictureFormat.TheVariants.{Svg, Vcd}
 use Rattle.ptk_main_line.specs.declared.requests.StatsOptions.{StatsOptions}
 use Rattle.ptk_main_line.specs.declared.requests.TimelineOptions.{TimelineOptions}
 use Rattle.ptk_main_faults.specs.declared.fault.Fault.{Fault}
@@ -73,8 +74,9 @@ explanation_by options config (Err fault) files ticks bytes symbols old new imag
 pub timeline_by : {T : Type 0} (options : TimelineOptions) (config : Configuration) (outcome : Result T Fault) (files : List NamedFile) (from to : ℕ) (bytes : List ℕ) (symbols : List (ℕ × List ℕ)) (old new : Option (List ℕ))
     → AreImagesOf config.sections files → table_of bytes ≡ Ok symbols → from ≡ unwrap_or options.from 0 → to ≡ options.run.ticks
     → MatchResult outcome (λ _. picture_refusal options config files ≡ None) (IsFaultOf (picture_refusal options config files) (picture_refusal options config files))
-    → OnOk outcome (options.format ≡ Svg → PutsPicture symbols config files from to old new) → OnOk outcome (WithImages config.sections (IsTimelineOf options config old new))
-timeline_by options config (Ok u) files from to bytes symbols old new images table begins ends is drawn = (
+    → OnOk outcome (options.format ≡ Svg → PutsPicture symbols config files from to old new) → OnOk outcome (options.format ≡ Vcd → PutsDump (world_at config files from) from to old new)
+    → OnOk outcome (WithImages config.sections (IsTimelineOf options config old new))
+timeline_by options config (Ok u) files from to bytes symbols old new images table begins ends is drawn dumped = (
   files,
   images,
   record {
@@ -84,6 +86,8 @@ timeline_by options config (Ok u) files from to bytes symbols old new images tab
     table = table;
     drawn = λ svg. subst (λ (t : ℕ). PutsPicture symbols config files (unwrap_or options.from 0) t old new) ends
         (subst (λ (f : ℕ). PutsPicture symbols config files f to old new) begins (drawn svg));
+    dumped = λ vcd. subst (λ (t : ℕ). PutsDump (world_at config files (unwrap_or options.from 0)) (unwrap_or options.from 0) t old new) ends
+        (subst (λ (f : ℕ). PutsDump (world_at config files f) f to old new) begins (dumped vcd));
   },
 )
-timeline_by options config (Err fault) files from to bytes symbols old new images table begins ends is drawn = tt
+timeline_by options config (Err fault) files from to bytes symbols old new images table begins ends is drawn dumped = tt

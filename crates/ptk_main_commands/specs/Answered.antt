@@ -8,6 +8,7 @@ use Rattle.ptk_config.specs.Configuration.{Configuration}
 use Rattle.ptk_timeline.specs.Starts.{routine_of, seen_to}
 use Rattle.ptk_timeline.below.ptk_timeline_starts.specs.declared.starts.Names.{Names}
 use Rattle.ptk_timeline.specs.Picture.{IsPictureOf}
+use Rattle.ptk_timeline_formats.specs.Runs.{PutsDump}
 use Rattle.ptk_statistics.specs.Answered.{PutsRun}
 use Rattle.ptk_statistics.specs.Tables.{PutsTables}
 use Rattle.ptk_statistics.specs.declared.answer.Form.{Form as Figures}
@@ -18,7 +19,7 @@ use Rattle.ptk_explanation.specs.declared.answer.Form.TheVariants as standing
 use Rattle.ptk_main_line.specs.declared.requests.ExplainOptions.{ExplainOptions}
 use Rattle.ptk_main_line.specs.declared.requests.Format.{Format}
 use Rattle.ptk_main_line.specs.declared.requests.Format.TheVariants as form
-use Rattle.ptk_main_line.specs.declared.requests.PictureFormat.TheVariants.{Svg}
+use Rattle.ptk_main_line.specs.declared.requests.PictureFormat.TheVariants.{Svg, Vcd}
 use Rattle.ptk_main_line.specs.declared.requests.StatsOptions.{StatsOptions}
 use Rattle.ptk_main_line.specs.declared.requests.TimelineOptions.{TimelineOptions}
 use Rattle.ptk_main_files.specs.NamedFiles.{NamedFile}
@@ -81,10 +82,11 @@ PutsPicture symbols config files from to old new =
     (names : Names) × AreRoutines symbols (world_at config files 0) to (routine_of names)
     × (text : List ℕ) × IsPictureOf config (world_at config files 0) names from to text × Appends old new text
 
--- with these images nothing is refused, and as SVG the picture is written of the ticks that are asked for, with the symbols of a text (own)
+-- with these images nothing is refused, and of the ticks that are asked for the picture is written as SVG, with the symbols of a text, or as a Value Change Dump (own)
 pub record IsTimelineOf (options : TimelineOptions) (config : Configuration) (old new : Option (List ℕ)) (files : List NamedFile) : Type 0 where
   pub accepted : picture_refusal options config files ≡ None
   pub bytes : List ℕ
   pub symbols : List (ℕ × List ℕ)
   pub table : table_of bytes ≡ Ok symbols
   pub drawn : options.format ≡ Svg → PutsPicture symbols config files (unwrap_or options.from 0) options.run.ticks old new
+  pub dumped : options.format ≡ Vcd → PutsDump (world_at config files (unwrap_or options.from 0)) (unwrap_or options.from 0) options.run.ticks old new

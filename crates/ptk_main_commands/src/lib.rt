@@ -11,8 +11,8 @@
 //! - `stats`, `timeline` and `explain` are done only where, for some files that are images of the sections and nothing
 //!   else, nothing is refused; a fault is of a file that is not read, by its name, or the refusal for such files.
 //! - `stats_config` and `explain_config` write the figures and how the partition stands, of the run that is asked for,
-//!   as text or as JSON; `timeline_config` writes as SVG the picture of the ticks that are asked for. Of the other
-//!   forms of a picture the refusals alone are promised (`timeline_answer`).
+//!   as text or as JSON; `timeline_config` writes the picture of the ticks that are asked for as SVG or as a Value
+//!   Change Dump. Of trace events the refusals alone are promised (`timeline_answer`).
 //! - Which files it reads is tested; that the writer is standard output is neither proved nor tested.
 //!
 //! Below are the other requests (`ptk_main_files`), and what this crate alone joins: the pictures (`ptk_timeline`,

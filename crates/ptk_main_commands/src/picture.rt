@@ -7,6 +7,7 @@ ghost use Rattle.ptk_timeline.specs.Starts.{start_of};
 ghost use Rattle.ptk_timeline_formats.specs.Missing.{first_missing};
 ghost use Rattle.ptk_timeline_formats.specs.declared.fault.FormatFault.TheVariants.{FromPastEnd};
 ghost use Rattle.ptk_timeline_formats.specs.Faults.{missing_in_format};
+ghost use Rattle.ptk_timeline_formats.specs.Runs.{PutsDump};
 ghost use Rattle.ptk_main_files.specs.Outcomes.{WithImages};
 ghost use Rattle.ptk_main_files.specs.Refusals.{IsFaultOf, refused_picture};
 ghost use Rattle.ptk_main_files.specs.World.{world_at};
@@ -69,7 +70,7 @@ fn timeline_config<'a, W: Write>(
 /// Writes the picture of a run from a tick on. A thread has the name of the symbol that begins where it starts, if one
 /// does: as SVG the last thread of each number, as trace events each that starts from the tick on; a Value Change Dump
 /// has no names. `Fault::NothingFrom` where the run ends at that tick or before it, which is looked at first. Of the
-/// bytes of the forms beside SVG nothing is promised.
+/// bytes of trace events nothing is promised.
 pub fn timeline_answer<'a, W: Write>(
     alloc: Global,
     config: &'a Config,
@@ -85,6 +86,8 @@ pub fn timeline_answer<'a, W: Write>(
         MatchResult result (λ _. refusal ≡ None) (IsFaultOf refusal refusal) }
     ensures drawn { OnOk result (format ≡ PictureFormat.Svg →
         PutsPicture symbols.now config.now files.now from to (W.contents out.old) (W.contents out.new)) }
+    ensures dumped { OnOk result (format ≡ PictureFormat.Vcd →
+        PutsDump (world_at config.now files.now from) from to (W.contents out.old) (W.contents out.new)) }
 {
     match put_picture(alloc, config, files, symbols, format, from, to, out) {
         Ok(()) => Ok(()),
@@ -115,6 +118,8 @@ fn put_picture<W: Write>(
         (λ fault. fault ≢ FromPastEnd → first_missing files.now config.now.sections ≡ missing_in_format fault) }
     ensures drawn { OnOk result (format ≡ PictureFormat.Svg →
         PutsPicture symbols.now config.now files.now from to (W.contents out.old) (W.contents out.new)) }
+    ensures dumped { OnOk result (format ≡ PictureFormat.Vcd →
+        PutsDump (world_at config.now files.now from) from to (W.contents out.old) (W.contents out.new)) }
 {
     match format {
         PictureFormat::Svg => put_svg(alloc, config, files, symbols, from, to, out),
