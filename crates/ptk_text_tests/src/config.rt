@@ -1,7 +1,7 @@
 //! Worked documents and their faults, by number.
 
 use ptk_config::{Config, ConfigFault, Section, read_config};
-use ptk_words::{Limits, Tick};
+use ptk_words::{Arrival, Limits, Tick};
 use std::alloc::{AllocError, Global};
 
 /// A document of one section and one window.
@@ -35,16 +35,25 @@ fn fault(alloc: Global, text: &str) -> (u8, u8) {
     }
 }
 
-/// The fault of the text of these parts, `None` where memory ran out.
-fn fault_in(alloc: Global, parts: &[&str]) -> Option<(u8, u8)> {
-    let text = parts.concat(alloc).ok()?;
-    Some(fault(alloc, text.as_str()))
+/// Whether these are the numbers of a text's fault.
+fn has_fault(alloc: Global, text: &str, want: (u8, u8)) -> bool {
+    fault(alloc, text) == want
 }
 
-/// The fault of the good document with one text in place of another, `None` where memory ran out.
-fn changed(alloc: Global, old: &str, new: &str) -> Option<(u8, u8)> {
-    let text = replaced(alloc, &GOOD, old, new).ok()?;
-    Some(fault(alloc, text.as_str()))
+/// Whether these are the numbers of the fault of the text of these parts.
+fn has_fault_in(alloc: Global, parts: &[&str], want: (u8, u8)) -> bool {
+    match parts.concat(alloc) {
+        Ok(text) => has_fault(alloc, text.as_str(), want),
+        Err(_) => false,
+    }
+}
+
+/// Whether this is the number of the fault of the good document with one text in place of another.
+fn is_changed(alloc: Global, old: &str, new: &str, want: u8) -> bool {
+    match replaced(alloc, &GOOD, old, new) {
+        Ok(text) => has_fault(alloc, text.as_str(), (want, 0)),
+        Err(_) => false,
+    }
 }
 
 /// The configuration of the text of these parts, `None` where it is refused or memory ran out.
@@ -97,12 +106,18 @@ fn is_read(alloc: Global, parts: &[&str]) -> bool {
 /// A comment of 64 bytes.
 const COMMENT: &str = "# a line that says nothing of any section and of no window ....\n";
 
+/// Whether the good document behind which the comment stands many times is read too.
+fn is_read_before_comments(alloc: Global) -> bool {
+    match COMMENT.repeat(alloc, 400) {
+        Ok(comments) => is_read(alloc, &[FRAME, SECTION, WINDOW, comments.as_str()]),
+        Err(_) => false,
+    }
+}
+
 #[test]
-fn reads_the_document(rt: HostRuntime) -> Result<(), AllocError> {
+fn reads_the_document(rt: HostRuntime) {
     assert!(rt; is_read(rt.alloc(), &GOOD));
-    let comments = COMMENT.repeat(rt.alloc(), 400)?;
-    assert!(rt; is_read(rt.alloc(), &[FRAME, SECTION, WINDOW, comments.as_str()]));
-    Ok(())
+    assert!(rt; is_read_before_comments(rt.alloc()));
 }
 
 /// A key with input at two ticks, and what arrives then: the tick and the byte.
@@ -111,15 +126,30 @@ const INPUT: &str =
 
 const ARRIVALS: [(u64, u8); 3] = [(3, 1), (3, 2), (1_099_511_627_776, 255)];
 
+/// Whether the byte at a place of an input is this one, at this tick.
+fn is_arrival(input: &[Arrival], place: usize, tick: u64, byte: u8) -> bool {
+    match input.get(place) {
+        Some(found) => found.tick.ticks() == tick && found.byte == byte,
+        None => false,
+    }
+}
+
+/// Whether this is an input.
+fn is_input(input: &[Arrival], arrivals: &[(u64, u8)]) -> bool {
+    for (place, (tick, byte)) in arrivals.iter().enumerate() {
+        if !is_arrival(input, place, *tick, *byte) {
+            return false;
+        }
+    }
+    input.len() == arrivals.len()
+}
+
 /// Whether this is the input of the only section.
 fn has_input(config: &Config, arrivals: &[(u64, u8)]) -> bool {
-    let Some(section) = config.sections().first() else {
-        return false;
-    };
-    let input = section.input();
-    input.len() == arrivals.len()
-        && input.iter().zip(arrivals.iter()).all(|(found, wanted)| found.tick.ticks() == wanted.0
-            && found.byte == wanted.1)
+    match config.sections().first() {
+        Some(section) => is_input(section.input(), arrivals),
+        None => false,
+    }
 }
 
 #[test]
@@ -159,8 +189,8 @@ const DOCUMENTS: [(&[&str], (u8, u8)); 7] = [
 
 #[test]
 fn refuses_documents(rt: HostRuntime) {
-    for (parts, want) in DOCUMENTS {
-        assert!(rt; fault_in(rt.alloc(), parts) == Some(want));
+    for (parts, want) in DOCUMENTS.iter() {
+        assert!(rt; has_fault_in(rt.alloc(), parts, *want));
     }
 }
 
@@ -180,16 +210,12 @@ const VALUES: [(&str, &str, u8); 10] = [
 
 #[test]
 fn refuses_values(rt: HostRuntime) {
-    for (old, new, want) in VALUES {
-        assert!(rt;
-            changed(rt.alloc(), old, new) == Some((want, 0)),
-            "at {new}"
-        );
+    for (old, new, want) in VALUES.iter() {
+        assert!(rt; is_changed(rt.alloc(), old, new, *want), "at {new}");
     }
 }
 
 /// A document in which a part is repeated many times, and the numbers of its fault.
-#[derive(Clone, Copy)]
 struct Many<'a> {
     head: [&'a str; 3],
     part: &'a str,
@@ -198,18 +224,23 @@ struct Many<'a> {
     want: (u8, u8),
 }
 
-/// The fault of such a document, `None` where memory ran out.
-fn fault_of_many(alloc: Global, many: &Many<'_>) -> Option<(u8, u8)> {
+/// Whether such a document with this text in its middle has its fault.
+fn is_refused_around(alloc: Global, many: &Many<'_>, middle: &str) -> bool {
     let (head, tail) = (&many.head, &many.tail);
-    let part = many.part.repeat(alloc, many.count).ok()?;
-    fault_in(
-        alloc,
-        &[head[0], head[1], head[2], part.as_str(), tail[0], tail[1]],
-    )
+    let parts = [head[0], head[1], head[2], middle, tail[0], tail[1]];
+    has_fault_in(alloc, &parts, many.want)
+}
+
+/// Whether such a document has its fault.
+fn is_refused(alloc: Global, many: &Many<'_>) -> bool {
+    match many.part.repeat(alloc, many.count) {
+        Ok(middle) => is_refused_around(alloc, many, middle.as_str()),
+        Err(_) => false,
+    }
 }
 
 /// One window, one section and one byte of input more than there may be, and as many bytes as there may be.
-const MANY: [Many<'static>; 4] = [
+static MANY: [Many<'static>; 4] = [
     Many {
         head: [FRAME, SECTION, ""],
         part: WINDOW,
@@ -242,31 +273,44 @@ const MANY: [Many<'static>; 4] = [
 
 #[test]
 fn refuses_too_many(rt: HostRuntime) {
-    for many in MANY {
-        assert!(rt; fault_of_many(rt.alloc(), &many) == Some(many.want));
+    for many in MANY.iter() {
+        assert!(rt; is_refused(rt.alloc(), many));
     }
 }
 
 /// A frame of 40 ticks.
 const FRAME_40: &str = "frame = 40\n";
 
-/// The key `plan` with plans from these frames on in which p has the second half of 40 ticks, and one more plan.
-fn plans(alloc: Global, numbers: &[&str], more: &str) -> Result<String, AllocError> {
-    let mut text = String::from_str(alloc, "plan = [")?;
-    for number in numbers {
-        text.push_str("{ from = ")?;
-        text.push_str(number)?;
-        text.push_str(", window = [{ start = 20, length = 20, partition = \"p\" }] }, ")?;
-    }
-    text.push_str(more)?;
-    text.push_str("]\n")?;
-    Ok(text)
+/// Puts a plan from this frame on in which p has the second half of 40 ticks.
+fn push_plan(text: &mut String, number: &str) -> Result<(), AllocError> {
+    text.push_str("{ from = ")?;
+    text.push_str(number)?;
+    text.push_str(", window = [{ start = 20, length = 20, partition = \"p\" }] }, ")
 }
 
-/// The fault of a document of a frame of 40 ticks, of which p has the first half, with these plans.
-fn with_plans(alloc: Global, numbers: &[&str], more: &str) -> Option<(u8, u8)> {
-    let key = plans(alloc, numbers, more).ok()?;
-    fault_in(alloc, &[FRAME_40, key.as_str(), SECTION, WINDOW])
+/// Puts the key `plan` with plans from these frames on in which p has the second half of 40 ticks, and one more plan.
+fn push_plans(text: &mut String, numbers: &[&str], more: &str) -> Result<(), AllocError> {
+    text.push_str("plan = [")?;
+    for number in numbers {
+        push_plan(text, number)?;
+    }
+    text.push_str(more)?;
+    text.push_str("]\n")
+}
+
+/// Whether these are the numbers of the fault of a document of a frame of 40 ticks, of which p has the first half, with
+/// this key.
+fn has_fault_with(alloc: Global, key: &str, want: (u8, u8)) -> bool {
+    has_fault_in(alloc, &[FRAME_40, key, SECTION, WINDOW], want)
+}
+
+/// Whether this is the number of the fault of that document with these plans.
+fn have_fault(alloc: Global, numbers: &[&str], more: &str, want: u8) -> bool {
+    let mut key = String::new(alloc);
+    match push_plans(&mut key, numbers, more) {
+        Ok(()) => has_fault_with(alloc, key.as_str(), (want, 0)),
+        Err(_) => false,
+    }
 }
 
 /// The end of p's window that holds the tick, 0 where none does.
@@ -280,54 +324,59 @@ fn end_at(config: &Config, tick: u64) -> u64 {
 /// Ticks over two plans, and the ends of p's windows that hold them, 0 where none does.
 const ENDS: [(u64, u64); 5] = [(0, 20), (59, 60), (60, 0), (80, 0), (100, 120)];
 
-/// The first of these ticks whose window ends elsewhere.
-fn first_other_end(config: &Config, ends: &[(u64, u64)]) -> Option<u64> {
+/// Whether the window of each of these ticks ends there.
+fn has_ends(config: &Config, ends: &[(u64, u64)]) -> bool {
     for (tick, end) in ends {
         if end_at(config, *tick) != *end {
-            return Some(*tick);
+            return false;
         }
     }
-    None
+    true
 }
 
-/// The first of these ticks whose window ends elsewhere in the document with this key.
-fn other_end_in(alloc: Global, key: &str, ends: &[(u64, u64)]) -> Option<u64> {
+/// Whether in the document with this key the window of each of these ticks ends there.
+fn has_ends_in(alloc: Global, key: &str, ends: &[(u64, u64)]) -> bool {
     match config_in(alloc, &[FRAME_40, key, SECTION, WINDOW]) {
-        Some(config) => first_other_end(&config, ends),
-        None => Some(0),
+        Some(config) => has_ends(&config, ends),
+        None => false,
+    }
+}
+
+/// Whether a document with two plans has these ends of windows.
+fn have_ends(alloc: Global, ends: &[(u64, u64)]) -> bool {
+    let mut key = String::new(alloc);
+    match push_plans(&mut key, &["2", "68719476736"], "") {
+        Ok(()) => has_ends_in(alloc, key.as_str(), ends),
+        Err(_) => false,
     }
 }
 
 #[test]
-fn reads_plans(rt: HostRuntime) -> Result<(), AllocError> {
-    let key = plans(rt.alloc(), &["2", "68719476736"], "")?;
-    assert!(rt; other_end_in(rt.alloc(), key.as_str(), &ENDS) == None);
-    for key in ["", "plan = []\n"] {
-        assert!(rt;
-            other_end_in(rt.alloc(), key, &[(4000, 4020)]) == None,
-            "with {key}"
-        );
-    }
-    Ok(())
+fn reads_plans(rt: HostRuntime) {
+    assert!(rt; have_ends(rt.alloc(), &ENDS));
+    assert!(rt; has_ends_in(rt.alloc(), "", &[(4000, 4020)]));
+    assert!(rt; has_ends_in(rt.alloc(), "plan = []\n", &[(4000, 4020)]));
 }
 
 /// From which frames two plans are, and the number of their fault.
-const FROM: [(&str, &str, u8); 8] = [
-    ("2", "2", 4),
-    ("2", "1", 4),
-    ("0", "1", 4),
-    ("-1", "1", 4),
-    ("1", "68719476737", 4),
-    ("1", "68719476736", 0),
-    ("1", "2.0", 3),
-    ("1", "true", 3),
+const FROM: [(&[&str], u8); 8] = [
+    (&["2", "2"], 4),
+    (&["2", "1"], 4),
+    (&["0", "1"], 4),
+    (&["-1", "1"], 4),
+    (&["1", "68719476737"], 4),
+    (&["1", "68719476736"], 0),
+    (&["1", "2.0"], 3),
+    (&["1", "true"], 3),
 ];
 
 #[test]
 fn refuses_numbers_of_plans(rt: HostRuntime) {
-    for (first, second, want) in FROM {
-        let found = with_plans(rt.alloc(), &[first, second], "");
-        assert!(rt; found == Some((want, 0)), "{first}, {second}");
+    for (place, (numbers, want)) in FROM.iter().enumerate() {
+        assert!(rt;
+            have_fault(rt.alloc(), numbers, "", *want),
+            "at place {place}"
+        );
     }
 }
 
@@ -355,9 +404,8 @@ const PLANS: [(&str, (u8, u8)); 12] = [
 
 #[test]
 fn refuses_plans(rt: HostRuntime) {
-    for (key, want) in PLANS {
-        let parts = [FRAME_40, key, SECTION, WINDOW];
-        assert!(rt; fault_in(rt.alloc(), &parts) == Some(want), "in {key}");
+    for (key, want) in PLANS.iter() {
+        assert!(rt; has_fault_with(rt.alloc(), key, *want), "in {key}");
     }
 }
 
@@ -368,6 +416,6 @@ const FIFTEEN: [&str; 15] = [
 
 #[test]
 fn refuses_too_many_plans(rt: HostRuntime) {
-    assert!(rt; with_plans(rt.alloc(), &FIFTEEN, "") == Some((0, 0)));
-    assert!(rt; with_plans(rt.alloc(), &FIFTEEN, "{ from = true } ") == Some((4, 0)));
+    assert!(rt; have_fault(rt.alloc(), &FIFTEEN, "", 0));
+    assert!(rt; have_fault(rt.alloc(), &FIFTEEN, "{ from = true } ", 4));
 }

@@ -3,7 +3,8 @@
 use crate::config::replaced;
 use ptk_config_explain::{ExplainFault, explain_refusal};
 use ptk_config_places::{Key, Place, TablePlace, first_refusal};
-use std::alloc::{AllocError, Global};
+use std::alloc::Global;
+use std::process::Abort;
 
 const FRAME: &str = "frame = 40\n";
 
@@ -36,31 +37,22 @@ fn is_changed(alloc: Global, old: &str, new: &str, line: &str) -> bool {
     }
 }
 
-// The first of these rows whose line is another: the text that was put into the document. None where there is none.
-fn first_other_line<'a>(alloc: Global, rows: &[(&'a str, &'a str, &'a str)]) -> Option<&'a str> {
+// Asserts that each of these rows has its line.
+fn check_lines(rt: &impl Abort, alloc: Global, rows: &[(&str, &str, &str)]) {
     for (old, new, line) in rows {
-        if !is_changed(alloc, old, new, line) {
-            return Some(*new);
-        }
+        assert!(rt; is_changed(alloc, old, new, line), "with {new}: {line}");
     }
-    None
 }
-
-/// The rows of all tables below.
-const LINES: [&[(&str, &str, &str)]; 6] = [
-    &TOP_LINES,
-    &NAME_LINES,
-    &NUMBER_LINES,
-    &INPUT_LINES,
-    &WINDOW_LINES,
-    &PLAN_LINES,
-];
 
 #[test]
 fn each_change_has_its_line(rt: HostRuntime) {
-    for rows in LINES {
-        assert_eq!(rt; first_other_line(rt.alloc(), rows), None);
-    }
+    let alloc = rt.alloc();
+    check_lines(&rt, alloc, &TOP_LINES);
+    check_lines(&rt, alloc, &NAME_LINES);
+    check_lines(&rt, alloc, &NUMBER_LINES);
+    check_lines(&rt, alloc, &INPUT_LINES);
+    check_lines(&rt, alloc, &WINDOW_LINES);
+    check_lines(&rt, alloc, &PLAN_LINES);
 }
 
 // Whether a text is accepted.
@@ -71,11 +63,17 @@ fn is_accepted(alloc: Global, text: &str) -> bool {
     }
 }
 
+// Whether the good document is accepted.
+fn is_good_accepted(alloc: Global) -> bool {
+    match GOOD.concat(alloc) {
+        Ok(text) => is_accepted(alloc, text.as_str()),
+        Err(_) => false,
+    }
+}
+
 #[test]
-fn accepted_text_has_no_line(rt: HostRuntime) -> Result<(), AllocError> {
-    let text = GOOD.concat(rt.alloc())?;
-    assert!(rt; is_accepted(rt.alloc(), text.as_str()));
-    Ok(())
+fn accepted_text_has_no_line(rt: HostRuntime) {
+    assert!(rt; is_good_accepted(rt.alloc()));
 }
 
 /// Texts of the good document, what is in their place, and the line then.
@@ -125,7 +123,7 @@ fn is_told_at(alloc: Global, text: &str, line: &str) -> bool {
 
 #[test]
 fn a_text_that_is_no_document(rt: HostRuntime) {
-    for (text, line) in NO_DOCUMENTS {
+    for (text, line) in NO_DOCUMENTS.iter() {
         assert!(rt; is_told_at(rt.alloc(), text, line), "at {text}");
     }
 }
@@ -190,48 +188,93 @@ const NUMBER_LINES: [(&str, &str, &str); 5] = [
     ),
 ];
 
-const Q: &str = "section 2 \"q\", ";
-
-const INPUT: &str = "section 1 \"p\", input 2, ";
-
-/// Tables, a key with its number in the good document, a number out of range, and what it is not from.
-const OUTSIDE: [(&str, &str, &str, &str, &str); 16] = [
-    ("", "frame", "40", "15", "16 to 1000000"),
-    ("", "frame", "40", "-1", "16 to 1000000"),
-    (Q, "memory", "8192", "4095", "4096 to 1048576"),
-    (Q, "threads", "5", "0", "1 to 32"),
-    (Q, "stack", "512", "0", "16 to 65536"),
-    (Q, "mutexes", "6", "65", "0 to 64"),
-    (Q, "conds", "7", "33", "0 to 32"),
-    (Q, "interval", "900", "0", "1 to 1000000"),
-    (Q, "ring", "32", "257", "1 to 256"),
-    (Q, "output", "65", "65537", "0 to 65536"),
-    (Q, "trace", "3", "1025", "0 to 1024"),
-    (INPUT, "at", "7", "4", "5 to 1099511627776"),
-    ("window 2, ", "start", "16", "-1", "0 to 999999"),
-    ("window 2, ", "length", "18", "0", "1 to 1000000"),
-    ("plan 1, ", "from", "2", "0", "1 to 68719476736"),
-    ("plan 2, ", "from", "3", "2", "3 to 68719476736"),
+/// Texts of the good document, a number out of range in their place, and the line then.
+const RANGE_LINES: [(&str, &str, &str); 16] = [
+    (
+        "frame = 40",
+        "frame = 15",
+        "key frame: 15 is not from 16 to 1000000\n",
+    ),
+    (
+        "frame = 40",
+        "frame = -1",
+        "key frame: -1 is not from 16 to 1000000\n",
+    ),
+    (
+        "memory = 8192",
+        "memory = 4095",
+        "section 2 \"q\", key memory: 4095 is not from 4096 to 1048576\n",
+    ),
+    (
+        "threads = 5",
+        "threads = 0",
+        "section 2 \"q\", key threads: 0 is not from 1 to 32\n",
+    ),
+    (
+        "stack = 512",
+        "stack = 0",
+        "section 2 \"q\", key stack: 0 is not from 16 to 65536\n",
+    ),
+    (
+        "mutexes = 6",
+        "mutexes = 65",
+        "section 2 \"q\", key mutexes: 65 is not from 0 to 64\n",
+    ),
+    (
+        "conds = 7",
+        "conds = 33",
+        "section 2 \"q\", key conds: 33 is not from 0 to 32\n",
+    ),
+    (
+        "interval = 900",
+        "interval = 0",
+        "section 2 \"q\", key interval: 0 is not from 1 to 1000000\n",
+    ),
+    (
+        "ring = 32",
+        "ring = 257",
+        "section 2 \"q\", key ring: 257 is not from 1 to 256\n",
+    ),
+    (
+        "output = 65",
+        "output = 65537",
+        "section 2 \"q\", key output: 65537 is not from 0 to 65536\n",
+    ),
+    (
+        "trace = 3",
+        "trace = 1025",
+        "section 2 \"q\", key trace: 1025 is not from 0 to 1024\n",
+    ),
+    (
+        "at = 7",
+        "at = 4",
+        "section 1 \"p\", input 2, key at: 4 is not from 5 to 1099511627776\n",
+    ),
+    (
+        "start = 16",
+        "start = -1",
+        "window 2, key start: -1 is not from 0 to 999999\n",
+    ),
+    (
+        "length = 18",
+        "length = 0",
+        "window 2, key length: 0 is not from 1 to 1000000\n",
+    ),
+    (
+        "from = 2",
+        "from = 0",
+        "plan 1, key from: 0 is not from 1 to 68719476736\n",
+    ),
+    (
+        "from = 3",
+        "from = 2",
+        "plan 2, key from: 2 is not from 3 to 68719476736\n",
+    ),
 ];
 
-// Whether the number out of range of a row has its line.
-fn is_outside<'a>(
-    alloc: Global,
-    row: &(&'a str, &'a str, &'a str, &'a str, &'a str),
-) -> Result<bool, AllocError> {
-    let (table, key, old, new, range) = *row;
-    let stated = [key, " = ", old].concat(alloc)?;
-    let other = [key, " = ", new].concat(alloc)?;
-    let line = [table, "key ", key, ": ", new, " is not from ", range, "\n"].concat(alloc)?;
-    Ok(is_changed(alloc, stated.as_str(), other.as_str(), line.as_str()))
-}
-
 #[test]
-fn a_number_out_of_range(rt: HostRuntime) -> Result<(), AllocError> {
-    for row in OUTSIDE.iter() {
-        assert!(rt; is_outside(rt.alloc(), row)?, "{}{}", row.0, row.1);
-    }
-    Ok(())
+fn a_number_out_of_range(rt: HostRuntime) {
+    check_lines(&rt, rt.alloc(), &RANGE_LINES);
 }
 
 /// Texts of the good document, what is in their place, and the line then.
@@ -276,12 +319,25 @@ const INPUT_LINES: [(&str, &str, &str); 7] = [
 /// The line of one byte more than there may be.
 const TOO_MANY: &str = "section 1 \"p\", input 2, key bytes: 65535 items, not 0 to 65534\n";
 
+// Whether these zeros and one more are too many.
+fn are_too_many(alloc: Global, zeros: &str) -> bool {
+    match ["[", zeros, "0]"].concat(alloc) {
+        Ok(many) => is_changed(alloc, "[3]", many.as_str(), TOO_MANY),
+        Err(_) => false,
+    }
+}
+
+// Whether one byte more than there may be is too many.
+fn is_one_too_many(alloc: Global) -> bool {
+    match "0, ".repeat(alloc, 65_534) {
+        Ok(zeros) => are_too_many(alloc, zeros.as_str()),
+        Err(_) => false,
+    }
+}
+
 #[test]
-fn too_many_bytes(rt: HostRuntime) -> Result<(), AllocError> {
-    let zeros = "0, ".repeat(rt.alloc(), 65_534)?;
-    let many = ["[", zeros.as_str(), "0]"].concat(rt.alloc())?;
-    assert!(rt; is_changed(rt.alloc(), "[3]", many.as_str(), TOO_MANY));
-    Ok(())
+fn too_many_bytes(rt: HostRuntime) {
+    assert!(rt; is_one_too_many(rt.alloc()));
 }
 
 /// Texts of the good document, what is in their place, and the line then.
@@ -405,7 +461,7 @@ fn is_told(alloc: Global, parts: &[&str], line: &str) -> bool {
 
 #[test]
 fn arrays_at_the_top(rt: HostRuntime) {
-    for (parts, line) in ARRAYS {
+    for (parts, line) in ARRAYS.iter() {
         assert!(rt; is_told(rt.alloc(), parts, line), "{line}");
     }
 }
@@ -421,11 +477,17 @@ fn is_at_memory(alloc: Global, text: &str) -> bool {
     }
 }
 
+// Whether the good document with another number at that key is refused so.
+fn is_changed_at_memory(alloc: Global, old: &str, new: &str) -> bool {
+    match replaced(alloc, &GOOD, old, new) {
+        Ok(text) => is_at_memory(alloc, text.as_str()),
+        Err(_) => false,
+    }
+}
+
 #[test]
-fn the_place_is_told(rt: HostRuntime) -> Result<(), AllocError> {
-    let text = replaced(rt.alloc(), &GOOD, "memory = 8192", "memory = 5000")?;
-    assert!(rt; is_at_memory(rt.alloc(), text.as_str()));
-    Ok(())
+fn the_place_is_told(rt: HostRuntime) {
+    assert!(rt; is_changed_at_memory(rt.alloc(), "memory = 8192", "memory = 5000"));
 }
 
 // Whether the line of an empty text ends in an error, with a writer of this much room.
@@ -437,13 +499,18 @@ fn is_cut(alloc: Global, most: usize) -> bool {
     }
 }
 
+// Whether the line of an empty text is written into as much room as it takes.
+fn is_whole(alloc: Global) -> bool {
+    let mut bytes = [0u8; 19];
+    let mut room = bytes.as_mut_slice();
+    let is_done = explain_refusal(alloc, "", &mut room).is_ok();
+    is_done && bytes.as_slice() == b"key frame: missing\n".as_slice()
+}
+
 #[test]
 fn a_writer_that_fails_is_an_error(rt: HostRuntime) {
     for most in 0..19 {
         assert!(rt; is_cut(rt.alloc(), most), "at {most}");
     }
-    let mut bytes = [0u8; 19];
-    let mut room = bytes.as_mut_slice();
-    assert!(rt; explain_refusal(rt.alloc(), "", &mut room).is_ok());
-    assert!(rt; bytes.as_slice() == b"key frame: missing\n".as_slice());
+    assert!(rt; is_whole(rt.alloc()));
 }

@@ -7,7 +7,7 @@ use ptk_words_windows::WindowFault;
 use std::alloc::{AllocError, Global};
 
 /// Faults with their line and status.
-const LINES: [(Fault<'static>, &str, u8); 14] = [
+static LINES: [(Fault<'static>, &str, u8); 14] = [
     (Fault::Config(4), "ptk: config fault 4\n", 1),
     (Fault::ConfigWindow(2), "ptk: config fault 7 window 2\n", 1),
     (Fault::Asm(2, 4), "ptk: asm line 2 fault 4\n", 1),
@@ -51,8 +51,8 @@ fn is_told(alloc: Global, fault: &Fault<'_>, line: &str, status: u8) -> bool {
 
 #[test]
 fn each_line_has_its_status(rt: HostRuntime) {
-    for (fault, line, status) in LINES {
-        assert!(rt; is_told(rt.alloc(), &fault, line, status), "{line}");
+    for (fault, line, status) in LINES.iter() {
+        assert!(rt; is_told(rt.alloc(), fault, line, *status), "{line}");
     }
 }
 
@@ -71,18 +71,26 @@ fn a_window_of_fifteen_ticks_is_refused(rt: HostRuntime) {
     assert!(rt; is_refused);
 }
 
+/// Whether a fault is want of memory.
+fn is_no_memory(fault: Fault<'_>) -> bool {
+    match fault {
+        Fault::NoMemory => true,
+        _ => false,
+    }
+}
+
 #[test]
 fn want_of_memory_is_one_line(rt: HostRuntime) {
-    assert!(rt; Fault::of_config(ConfigFault::Memory) == Fault::NoMemory);
+    assert!(rt; is_no_memory(Fault::of_config(ConfigFault::Memory)));
     let window = ConfigFault::Window(WindowFault::Memory);
-    assert!(rt; Fault::of_config(window) == Fault::NoMemory);
-    assert!(rt; Fault::of_image("p.img", ImageFault::Memory) == Fault::NoMemory);
-    assert!(rt; Fault::of_asm(2, 7) == Fault::NoMemory);
-    assert!(rt; Fault::from(AllocError) == Fault::NoMemory);
+    assert!(rt; is_no_memory(Fault::of_config(window)));
+    assert!(rt; is_no_memory(Fault::of_image("p.img", ImageFault::Memory)));
+    assert!(rt; is_no_memory(Fault::of_asm(2, 7)));
+    assert!(rt; is_no_memory(Fault::from(AllocError)));
 }
 
 /// Refusals of a configuration, and their faults.
-const REFUSALS: [(ConfigFault, Fault<'static>); 11] = [
+static REFUSALS: [(ConfigFault, Fault<'static>); 11] = [
     (ConfigFault::Text, Fault::Config(1)),
     (ConfigFault::MissingKey, Fault::Config(2)),
     (ConfigFault::WrongType, Fault::Config(3)),
@@ -111,13 +119,18 @@ const REFUSALS: [(ConfigFault, Fault<'static>); 11] = [
     ),
 ];
 
+/// Whether an image's refusal is the fault of this number, of the image `q`.
+fn is_image_fault(refusal: ImageFault, number: u8) -> bool {
+    Fault::of_image("q", refusal) == Fault::Image("q", number)
+}
+
 #[test]
 fn refusals_have_their_numbers(rt: HostRuntime) {
-    for (refusal, fault) in REFUSALS {
-        assert!(rt; Fault::of_config(refusal) == fault);
+    for (refusal, fault) in REFUSALS.iter() {
+        assert!(rt; Fault::of_config(*refusal) == *fault);
     }
-    assert!(rt; Fault::of_image("q", ImageFault::Length) == Fault::Image("q", 4));
-    assert!(rt; Fault::of_image("q", ImageFault::Unfit) == Fault::Image("q", 7));
+    assert!(rt; is_image_fault(ImageFault::Length, 4));
+    assert!(rt; is_image_fault(ImageFault::Unfit, 7));
 }
 
 /// Whether a writer of this much room is too short for a line.

@@ -2,15 +2,23 @@
 
 use clap::Error;
 use clap::error::ErrorKind;
-use ptk_main_line::{FailOn, Format, PictureFormat, Request, not_text, read_line, undecoded};
+use ptk_main_line::{
+    Format, PictureFormat, Request, RunOptions, TimelineOptions, TraceOptions, not_text, read_line,
+    undecoded,
+};
 use std::alloc::{AllocError, Global};
 use std::process::Abort;
 
-/// The kind of the error that the words have and whether it goes to stderr, `None` where they are taken.
-fn refusal(alloc: Global, words: &[&str]) -> Option<(ErrorKind, bool)> {
+/// Whether an error has this kind, and goes to stderr or not.
+fn is_error(error: &Error, kind: ErrorKind, is_usage: bool) -> bool {
+    error.kind() == kind && error.use_stderr() == is_usage
+}
+
+/// Whether the words are refused with an error of this kind, which goes to stderr or not.
+fn is_refused(alloc: Global, words: &[&str], kind: ErrorKind, is_usage: bool) -> bool {
     match read_line(alloc, words) {
-        Ok(_) => None,
-        Err(error) => Some((error.kind(), error.use_stderr())),
+        Ok(_) => false,
+        Err(error) => is_error(&error, kind, is_usage),
     }
 }
 
@@ -39,21 +47,48 @@ const RUN: &[&str] = &[
     "--explain",
 ];
 
+/// Whether there is a text, and it is this one.
+fn is_text(found: Option<&str>, want: &str) -> bool {
+    match found {
+        Some(text) => text == want,
+        None => false,
+    }
+}
+
+/// Whether there is a number, and it is this one.
+fn is_number(found: Option<u64>, want: u64) -> bool {
+    match found {
+        Some(number) => number == want,
+        None => false,
+    }
+}
+
+/// Whether these are the texts and the number of `RUN`.
+fn has_texts_of_run(options: &RunOptions<'_>) -> bool {
+    options.run.file == "a.toml"
+        && options.run.ticks == 1_099_511_627_776
+        && is_text(options.run.root, "d")
+        && is_text(options.expect, "a.report")
+}
+
+/// Whether these are the other options of `RUN`.
+fn has_choices_of_run(options: &RunOptions<'_>) -> bool {
+    options.fail_on.fault
+        && !options.fail_on.refused
+        && options.fail_on.idle
+        && options.until_halted
+        && options.quiet
+        && options.explain
+        && options.format == Format::Json
+}
+
 #[test]
 fn reads_run(rt: HostRuntime) {
     let Some(Request::Run(options)) = request(rt.alloc(), RUN) else {
         rt.abort()
     };
-    assert!(rt; options.run.file == "a.toml" && options.run.ticks == 1_099_511_627_776);
-    assert!(rt; options.run.root == Some("d") && options.expect == Some("a.report"));
-    let kinds = FailOn {
-        fault: true,
-        refused: false,
-        idle: true,
-    };
-    assert!(rt; options.fail_on == kinds);
-    assert!(rt; options.until_halted && options.quiet && options.explain);
-    assert!(rt; options.format == Format::Json);
+    assert!(rt; has_texts_of_run(&options));
+    assert!(rt; has_choices_of_run(&options));
 }
 
 /// Words of `trace` with each of its options, words of it with none, and words of `timeline`.
@@ -105,19 +140,51 @@ const TIMELINE: &[&str] = &[
     "a.sym",
 ];
 
+/// The options of these words of `trace`, `None` where they are none.
+fn trace_of<'a>(alloc: Global, words: &'a [&'a str]) -> Option<TraceOptions<'a>> {
+    match request(alloc, words)? {
+        Request::Trace(options) => Some(options),
+        _ => None,
+    }
+}
+
+/// Whether these are the texts of `TRACE`, and its options without a value.
+fn has_texts_of_trace(options: &TraceOptions<'_>) -> bool {
+    options.run.root.is_none()
+        && options.partition == "p"
+        && options.decode
+        && options.calls
+        && options.wants_words()
+        && !options.explain
+        && is_text(options.symbols, "a.sym")
+}
+
+/// Whether these are the numbers of `TRACE`.
+fn has_numbers_of_trace(options: &TraceOptions<'_>) -> bool {
+    is_number(options.last, 1_048_576)
+        && is_number(options.thread, 32)
+        && is_number(options.from, 3)
+        && is_number(options.to, 5)
+}
+
 #[test]
 fn reads_trace(rt: HostRuntime) {
-    let Some(Request::Trace(options)) = request(rt.alloc(), TRACE) else {
+    let Some(options) = trace_of(rt.alloc(), TRACE) else {
         rt.abort()
     };
-    assert!(rt; options.run.root == None && options.partition == "p");
-    assert!(rt; options.decode && options.calls && options.wants_words() && !options.explain);
-    assert!(rt; options.symbols == Some("a.sym") && options.last == Some(1_048_576));
-    assert!(rt; options.thread == Some(32) && options.from == Some(3) && options.to == Some(5));
-    let Some(Request::Trace(options)) = request(rt.alloc(), PLAIN_TRACE) else {
+    assert!(rt; has_texts_of_trace(&options));
+    assert!(rt; has_numbers_of_trace(&options));
+    let Some(options) = trace_of(rt.alloc(), PLAIN_TRACE) else {
         rt.abort()
     };
     assert!(rt; !options.decode && !options.wants_words());
+}
+
+/// Whether these are the options of `TIMELINE`.
+fn is_timeline(options: &TimelineOptions<'_>) -> bool {
+    is_number(options.from, 7)
+        && options.format == PictureFormat::Vcd
+        && is_text(options.symbols, "a.sym")
 }
 
 #[test]
@@ -125,8 +192,7 @@ fn reads_timeline(rt: HostRuntime) {
     let Some(Request::Timeline(options)) = request(rt.alloc(), TIMELINE) else {
         rt.abort()
     };
-    assert!(rt; options.from == Some(7) && options.format == PictureFormat::Vcd);
-    assert!(rt; options.symbols == Some("a.sym"));
+    assert!(rt; is_timeline(&options));
 }
 
 /// Words, and the kind of their error. Help alone does not go to stderr.
@@ -206,9 +272,9 @@ const REFUSALS: [(&[&str], ErrorKind); 21] = [
 
 #[test]
 fn refuses_other_words(rt: HostRuntime) {
-    for (words, kind) in REFUSALS {
-        let is_usage = kind != ErrorKind::DisplayHelp;
-        assert!(rt; refusal(rt.alloc(), words) == Some((kind, is_usage)));
+    for (words, kind) in REFUSALS.iter() {
+        let is_usage = *kind != ErrorKind::DisplayHelp;
+        assert!(rt; is_refused(rt.alloc(), words, *kind, is_usage));
     }
 }
 
@@ -252,38 +318,49 @@ const FAULT: &str = "\n  1  ";
 
 const USAGE: &str = "\n  2  usage";
 
+/// Whether a text has all these parts.
+fn has_all(text: &str, parts: &[&str]) -> bool {
+    for part in parts {
+        if !text.contains(*part) {
+            return false;
+        }
+    }
+    true
+}
+
+/// Whether an error says all these parts.
+fn says(alloc: Global, error: &Error, parts: &[&str]) -> bool {
+    match format!(in alloc; "{error}") {
+        Ok(text) => has_all(text.as_str(), parts),
+        Err(_) => false,
+    }
+}
+
 /// Whether help says all these parts for the words.
 fn says_all(alloc: Global, words: &[&str], parts: &[&str]) -> bool {
     match read_line(alloc, words) {
         Ok(_) => false,
-        Err(error) => match format!(in alloc; "{error}") {
-            Ok(text) => parts.iter().all(|part| text.as_str().contains(*part)),
-            Err(_) => false,
-        },
+        Err(error) => says(alloc, &error, parts),
     }
 }
 
 #[test]
 fn help_says_the_statuses_and_an_example(rt: HostRuntime) {
-    for (words, parts) in HELP {
+    for (words, parts) in HELP.iter() {
         assert!(rt; says_all(rt.alloc(), words, parts));
     }
 }
 
-/// The kind of an error and whether it goes to stderr, `None` where memory ran out.
-fn kind_of(error: Result<Error, AllocError>) -> Option<(ErrorKind, bool)> {
-    let error = error.ok()?;
-    Some((error.kind(), error.use_stderr()))
+/// Whether there is an error, of this kind, which goes to stderr; it is not where memory ran out.
+fn is_usage(error: Result<Error, AllocError>, kind: ErrorKind) -> bool {
+    match error {
+        Ok(error) => is_error(&error, kind, true),
+        Err(_) => false,
+    }
 }
 
 #[test]
 fn words_that_are_no_text_or_choose_without_decode_are_a_usage_error(rt: HostRuntime) {
-    assert_eq!(rt;
-        kind_of(not_text(rt.alloc())),
-        Some((ErrorKind::ValueValidation, true))
-    );
-    assert_eq!(rt;
-        kind_of(undecoded(rt.alloc())),
-        Some((ErrorKind::MissingRequiredArgument, true))
-    );
+    assert!(rt; is_usage(not_text(rt.alloc()), ErrorKind::ValueValidation));
+    assert!(rt; is_usage(undecoded(rt.alloc()), ErrorKind::MissingRequiredArgument));
 }
