@@ -137,7 +137,7 @@ enable:
 ";
 
 /// How each guest of this module ends, and what is seen of it before.
-pub const ROWS: [Row<'static>; 5] = [
+pub static ROWS: [Row<'static>; 5] = [
     Row {
         name: "sixteen_handlers_run_the_last_pushed_first",
         parts: &ALONE,

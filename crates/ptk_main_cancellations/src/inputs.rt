@@ -35,7 +35,7 @@ around:
 ";
 
 /// What the guest of this module does.
-pub const ROWS: [Row<'static>; 1] = [Row {
+pub static ROWS: [Row<'static>; 1] = [Row {
     name: "a_full_ring_keeps_the_first_bytes",
     parts: &FULL_RING,
     source: &[TAKES_THE_RING],

@@ -128,7 +128,7 @@ again:
 ";
 
 /// How each guest of this module ends, and what is seen of it before.
-pub const ROWS: [Row<'static>; 5] = [
+pub static ROWS: [Row<'static>; 5] = [
     // Row destructor-limit.
     Row {
         name: "a_destructor_runs_four_times_at_most",

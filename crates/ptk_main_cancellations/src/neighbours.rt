@@ -66,7 +66,7 @@ const TRACE: &str =
     "266 2 0x00000070 0x00000000 0x00000000\n270 2 0xfffffff0 0x00000000 0x00000068\n274 2 0x00000088 0x00100893 0x00000068\n275 2 0x0000008c 0x00000073 0x00000000\n279 2 0x00000090 0x00008067 0x00000000\n280 2 0xfffffff0 0x00000000 0x00000064\n284 2 0x00000088 0x00100893 0x00000064\n285 2 0x0000008c 0x00000073 0x00000000\n289 2 0x00000090 0x00008067 0x00000000\n290 2 0xfffffff0 0x00000000 0x00000000\n294 1 0x0000001c 0x00200513 0x00000002\n295 1 0x00000020 0x00c00893 0x00000002\n296 1 0x00000024 0x00000073 0x00000000\n304 1 0x00000028 0x00058513 0xffffffff\n305 1 0x0000002c 0x00000893 0xffffffff\n306 1 0x00000030 0x00000073 0xffffffff\n";
 
 /// The reports of p and q, with the same guest in q and with none, however a run is cut.
-pub const CUTS: [CutRow<'static>; 2] = [
+pub static CUTS: [CutRow<'static>; 2] = [
     CutRow {
         name: "beside itself",
         parts: &BESIDE_ITSELF,
@@ -100,7 +100,7 @@ pub const CUTS: [CutRow<'static>; 2] = [
 ];
 
 /// The last steps of p's guest, which a neighbour's cancellations do not change.
-pub const TRACES: [TraceRow<'static>; 2] = [
+pub static TRACES: [TraceRow<'static>; 2] = [
     TraceRow {
         name: "beside itself",
         parts: &BESIDE_ITSELF,

@@ -115,7 +115,7 @@ target:
 ";
 
 /// How each guest of this module ends, and what is seen of it before.
-pub const ROWS: [Row<'static>; 4] = [
+pub static ROWS: [Row<'static>; 4] = [
     Row {
         name: "an_asynchronous_request_acts_at_the_next_step",
         parts: &ALONE,
@@ -177,7 +177,7 @@ pub const ROWS: [Row<'static>; 4] = [
 ];
 
 /// The last steps of some guests of this module.
-pub const TRACES: [TraceRow<'static>; 1] = [TraceRow {
+pub static TRACES: [TraceRow<'static>; 1] = [TraceRow {
     name: "an_asynchronous_request_acts_at_the_next_step",
     parts: &ALONE,
     source: &[ASYNCHRONOUS_READY, LIBRARY],

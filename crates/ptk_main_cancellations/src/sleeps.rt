@@ -100,7 +100,7 @@ const SHORT: &str = "
 ";
 
 /// How each guest of this module ends, and what is seen of it before.
-pub const ROWS: [Row<'static>; 2] = [
+pub static ROWS: [Row<'static>; 2] = [
     Row {
         name: "a_tick_is_a_thousand_nanoseconds",
         parts: &ALONE,
@@ -133,7 +133,7 @@ pub const ROWS: [Row<'static>; 2] = [
 const ASLEEP: &str = "partition p idle steps 5 lost 0\noutput 0\n\n";
 
 /// The reports of guests that sleep, however a run is cut.
-pub const CUTS: [CutRow<'static>; 2] = [
+pub static CUTS: [CutRow<'static>; 2] = [
     CutRow {
         name: "a_long_sleep_is_the_same_however_it_is_cut",
         parts: &TWENTY,

@@ -262,7 +262,7 @@ waiter:
 ";
 
 /// How each guest of this module ends, and what is seen of it before.
-pub const ROWS: [Row<'static>; 8] = [
+pub static ROWS: [Row<'static>; 8] = [
     Row {
         name: "a_cancelled_waiter_owns_its_mutex_and_takes_no_signal",
         parts: &ALONE,
@@ -376,7 +376,7 @@ pub const ROWS: [Row<'static>; 8] = [
 ];
 
 /// The last steps of some guests of this module.
-pub const TRACES: [TraceRow<'static>; 2] = [
+pub static TRACES: [TraceRow<'static>; 2] = [
     TraceRow {
         name: "a_cancelled_waiter_owns_its_mutex_and_takes_no_signal",
         parts: &ALONE,

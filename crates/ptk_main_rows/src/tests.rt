@@ -191,9 +191,9 @@ fn first_dropped(system: &System<'_>) -> u64 {
     system.dropped(first(system))
 }
 
-// A register of the first partition's main.
-fn first_register(system: &System<'_>, i: u32) -> Option<u32> {
-    system.register(first(system), ThreadNo::new(1), i)
+// Whether a register of the first partition's main holds this.
+fn has_register(system: &System<'_>, i: u32, want: u32) -> bool {
+    system.register(first(system), ThreadNo::new(1), i) == Some(want)
 }
 
 // The pc of the first partition's main.
@@ -223,7 +223,7 @@ fn an_image_is_its_words(rt: HostRuntime) {
 }
 
 // The rows' reports where one guest runs.
-const ROWS: [Row<'static>; 12] = [
+static ROWS: [Row<'static>; 12] = [
     Row {
         name: "hello",
         parts: &ALONE,
@@ -323,7 +323,7 @@ const ROWS: [Row<'static>; 12] = [
 ];
 
 // Their reports however a run is cut.
-const CUTS: [CutRow<'static>; 2] = [
+static CUTS: [CutRow<'static>; 2] = [
     CutRow {
         name: "late-put",
         parts: &LATE,
@@ -346,7 +346,6 @@ const CUTS: [CutRow<'static>; 2] = [
 ];
 
 // A worked row of two guests: the sources of p and q, and the report after this many ticks.
-#[derive(Clone, Copy)]
 struct Pair<'a> {
     name: &'a str,
     parts: &'a [&'a str],
@@ -357,7 +356,7 @@ struct Pair<'a> {
 }
 
 // The rows' reports where q has a guest too.
-const PAIRS: [Pair<'static>; 5] = [
+static PAIRS: [Pair<'static>; 5] = [
     Pair {
         name: "two-hellos",
         parts: &TWO,
@@ -401,7 +400,7 @@ const PAIRS: [Pair<'static>; 5] = [
 ];
 
 // The rows' traces of p.
-const TRACES: [TraceRow<'static>; 5] = [
+static TRACES: [TraceRow<'static>; 5] = [
     TraceRow {
         name: "input-ring",
         parts: &ONE_BYTE,
@@ -439,22 +438,38 @@ const TRACES: [TraceRow<'static>; 5] = [
     },
 ];
 
-// The name of the first row of two guests whose report is another.
-fn first_wrong_pair<'a>(alloc: Global, rows: &[Pair<'a>]) -> Option<&'a str> {
+// Asserts that each of these rows is as wanted.
+fn check_rows(rt: &impl Abort, alloc: Global, rows: &[Row<'_>]) {
+    assert_eq!(rt; first_wrong_row(alloc, rows), None);
+}
+
+// Asserts that each of these rows has its trace.
+fn check_traces(rt: &impl Abort, alloc: Global, rows: &[TraceRow<'_>]) {
+    assert_eq!(rt; first_wrong_trace(alloc, rows), None);
+}
+
+// Asserts that each of these rows is reported as wanted, however its run is cut.
+fn check_cuts(rt: &impl Abort, alloc: Global, rows: &[CutRow<'_>]) {
+    assert_eq!(rt; first_wrong_cuts(alloc, rows), None);
+}
+
+// Asserts that each of these rows of two guests has its report.
+fn check_pairs(rt: &impl Abort, alloc: Global, rows: &[Pair<'_>]) {
     for row in rows {
-        if !is_some_text(report_beside(alloc, row), row.report) {
-            return Some(row.name);
-        }
+        assert!(rt;
+            is_some_text(report_beside(alloc, row), row.report),
+            "{}",
+            row.name
+        );
     }
-    None
 }
 
 #[test]
 fn each_row_is_reported(rt: HostRuntime) {
-    assert_eq!(rt; HELLO_REPORT.len(), 46);
-    assert_eq!(rt; first_wrong_row(rt.alloc(), &ROWS), None);
-    assert_eq!(rt; first_wrong_cuts(rt.alloc(), &CUTS), None);
-    assert_eq!(rt; first_wrong_pair(rt.alloc(), &PAIRS), None);
+    assert!(rt; HELLO_REPORT.len() == 46);
+    check_rows(&rt, rt.alloc(), &ROWS);
+    check_cuts(&rt, rt.alloc(), &CUTS);
+    check_pairs(&rt, rt.alloc(), &PAIRS);
 }
 
 // A section with room for 8192 bytes of output, alone in a frame that its run does not end.
@@ -499,20 +514,20 @@ fn a_long_output_is_reported_whole(rt: HostRuntime) {
 
 #[test]
 fn traces_are_the_last_steps(rt: HostRuntime) {
-    assert_eq!(rt; first_wrong_trace(rt.alloc(), &TRACES), None);
+    check_traces(&rt, rt.alloc(), &TRACES);
 }
 
 // Asserts what main's a1 is before and after the byte comes at tick 19, where main stands then, and bytes of its
 // memory.
 fn check_byte_at_19(rt: &impl Abort, system: &mut System<'_>) {
     run_on_to(system, 19);
-    assert_eq!(rt; first_register(system, 11), Some(0));
+    assert!(rt; has_register(system, 11, 0));
     run_on_to(system, 20);
     // Row input-ring.
-    assert_eq!(rt; first_register(system, 11), Some(97));
-    assert_eq!(rt; first_pc(system), Some(12));
-    assert_eq!(rt; first_byte(system, 0), Some(0x93));
-    assert_eq!(rt; first_byte(system, 4096), None);
+    assert!(rt; has_register(system, 11, 97));
+    assert!(rt; first_pc(system) == Some(12));
+    assert!(rt; first_byte(system, 0) == Some(0x93));
+    assert!(rt; first_byte(system, 4096).is_none());
 }
 
 #[test]
@@ -553,7 +568,7 @@ fn input_is_lost_where_the_ring_is_full(rt: HostRuntime) {
     match guest_of(alloc, &FULL_RING, &[sources::SPIN]) {
         Some((config, files)) => {
             // Row input-ring.
-            assert_eq!(rt; counts_at(alloc, &config, &files, 41), Some((2, 1, 21)));
+            assert!(rt; counts_at(alloc, &config, &files, 41) == Some((2, 1, 21)));
         }
         None => assert!(rt; false, "no memory"),
     }

@@ -55,7 +55,7 @@ const TICKS: u64 = 10_000_000;
 /// Prints the reports of the guests. An error where a file can't be read, a configuration is refused, a system does not
 /// boot, or the output fails.
 pub(crate) fn print_reports(rt: &HostRuntime) -> Result<()> {
-    for name in GUESTS {
+    for name in GUESTS.iter() {
         println!(rt; "guest {name}")?;
         print_report(rt, name, TICKS).context(name)?;
     }

@@ -132,7 +132,7 @@ waiter:
 ";
 
 /// How each guest of this module ends, and what is seen of it before.
-pub const ROWS: [Row<'static>; 6] = [
+pub static ROWS: [Row<'static>; 6] = [
     Row {
         name: "a_broadcast_fits_a_window_of_sixteen",
         parts: &SIXTEEN,
@@ -197,7 +197,7 @@ pub const ROWS: [Row<'static>; 6] = [
 ];
 
 /// The last steps of some guests of this module.
-pub const TRACES: [TraceRow<'static>; 1] = [TraceRow {
+pub static TRACES: [TraceRow<'static>; 1] = [TraceRow {
     name: "a_broadcast_fits_a_window_of_sixteen",
     parts: &SIXTEEN,
     source: &[BROADCAST],

@@ -118,7 +118,7 @@ late:
 ";
 
 /// How each guest of this module ends, and what is seen of it before.
-pub const ROWS: [Row<'static>; 5] = [
+pub static ROWS: [Row<'static>; 5] = [
     Row {
         name: "a_cycle_falls_as_its_waiter_leaves",
         parts: &ALONE,

@@ -218,7 +218,7 @@ third:
 ";
 
 /// How each guest of this module ends, and what is seen of it before.
-pub const ROWS: [Row<'static>; 8] = [
+pub static ROWS: [Row<'static>; 8] = [
     Row {
         name: "a_lock_waits_for_the_next_window",
         parts: &HALVES,
@@ -327,7 +327,7 @@ pub const ROWS: [Row<'static>; 8] = [
 ];
 
 /// The last steps of some guests of this module.
-pub const TRACES: [TraceRow<'static>; 1] = [TraceRow {
+pub static TRACES: [TraceRow<'static>; 1] = [TraceRow {
     name: "a_lock_waits_for_the_next_window",
     parts: &HALVES,
     source: &[LOCK_OVER_WINDOW_END],

@@ -363,7 +363,7 @@ const NESTED_CEILINGS: &str = "
 ";
 
 /// How each guest of this module ends, and what is seen of it before.
-pub const ROWS: [Row<'static>; 10] = [
+pub static ROWS: [Row<'static>; 10] = [
     Row {
         name: "an_owner_inherits",
         parts: &ALONE,

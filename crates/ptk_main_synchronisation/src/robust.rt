@@ -110,7 +110,7 @@ second:
 ";
 
 /// How each guest of this module ends, and what is seen of it before.
-pub const ROWS: [Row<'static>; 3] = [
+pub static ROWS: [Row<'static>; 3] = [
     Row {
         name: "a_dead_owners_mutex_goes_to_its_heir",
         parts: &ALONE,

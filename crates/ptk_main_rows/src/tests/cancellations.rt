@@ -1,43 +1,43 @@
 //! The worked rows of cancellation, cleanup handlers, keys, sleeps and input.
 
+use super::{check_cuts, check_rows, check_traces};
 use ptk_main_cancellations::{handlers, inputs, keys, neighbours, requests, sleeps, waits};
-use ptk_main_guests::{first_wrong_cuts, first_wrong_row, first_wrong_trace};
 
 #[test]
 fn rows_of_handlers(rt: HostRuntime) {
-    assert_eq!(rt; first_wrong_row(rt.alloc(), &handlers::ROWS), None);
+    check_rows(&rt, rt.alloc(), &handlers::ROWS);
 }
 
 #[test]
 fn rows_of_inputs(rt: HostRuntime) {
-    assert_eq!(rt; first_wrong_row(rt.alloc(), &inputs::ROWS), None);
+    check_rows(&rt, rt.alloc(), &inputs::ROWS);
 }
 
 #[test]
 fn rows_of_keys(rt: HostRuntime) {
-    assert_eq!(rt; first_wrong_row(rt.alloc(), &keys::ROWS), None);
+    check_rows(&rt, rt.alloc(), &keys::ROWS);
 }
 
 #[test]
 fn rows_of_neighbours(rt: HostRuntime) {
-    assert_eq!(rt; first_wrong_cuts(rt.alloc(), &neighbours::CUTS), None);
-    assert_eq!(rt; first_wrong_trace(rt.alloc(), &neighbours::TRACES), None);
+    check_cuts(&rt, rt.alloc(), &neighbours::CUTS);
+    check_traces(&rt, rt.alloc(), &neighbours::TRACES);
 }
 
 #[test]
 fn rows_of_requests(rt: HostRuntime) {
-    assert_eq!(rt; first_wrong_row(rt.alloc(), &requests::ROWS), None);
-    assert_eq!(rt; first_wrong_trace(rt.alloc(), &requests::TRACES), None);
+    check_rows(&rt, rt.alloc(), &requests::ROWS);
+    check_traces(&rt, rt.alloc(), &requests::TRACES);
 }
 
 #[test]
 fn rows_of_sleeps(rt: HostRuntime) {
-    assert_eq!(rt; first_wrong_row(rt.alloc(), &sleeps::ROWS), None);
-    assert_eq!(rt; first_wrong_cuts(rt.alloc(), &sleeps::CUTS), None);
+    check_rows(&rt, rt.alloc(), &sleeps::ROWS);
+    check_cuts(&rt, rt.alloc(), &sleeps::CUTS);
 }
 
 #[test]
 fn rows_of_waits(rt: HostRuntime) {
-    assert_eq!(rt; first_wrong_row(rt.alloc(), &waits::ROWS), None);
-    assert_eq!(rt; first_wrong_trace(rt.alloc(), &waits::TRACES), None);
+    check_rows(&rt, rt.alloc(), &waits::ROWS);
+    check_traces(&rt, rt.alloc(), &waits::TRACES);
 }

@@ -29,10 +29,10 @@ fn is_traced(alloc: Global, system: &System<'_>, want: &str) -> bool {
 fn check_stops(rt: &impl Abort, alloc: Global, system: &mut System<'_>) {
     run_on_to(system, 0);
     run_on_to(system, 3);
-    assert_eq!(rt; first_steps(system), 3);
+    assert!(rt; first_steps(system) == 3);
     assert!(rt; is_first_output(system, "h"));
     run_on_to(system, 10);
-    assert_eq!(rt; first_steps(system), 6);
+    assert!(rt; first_steps(system) == 6);
     assert!(rt; is_first_output(system, "hi"));
     assert!(rt;
         is_told(
@@ -42,7 +42,7 @@ fn check_stops(rt: &impl Abort, alloc: Global, system: &mut System<'_>) {
         )
     );
     run_on_to(system, 40);
-    assert_eq!(rt; first_steps(system), 9);
+    assert!(rt; first_steps(system) == 9);
     assert!(rt; is_told(alloc, system, HELLO_REPORT));
     assert!(rt; is_traced(alloc, system, FULL_TRACE));
 }
@@ -80,7 +80,7 @@ fn fits_trace(system: &System<'_>, most: usize) -> bool
 // Asserts that a writer takes the report, or the trace, if and only if it has room for it, and that the system then
 // shows both.
 fn check_writers(rt: &impl Abort, alloc: Global, system: &System<'_>) {
-    assert_eq!(rt; parts_of(system), 1);
+    assert!(rt; parts_of(system) == 1);
     // Row failing-report.
     for most in 0..46 {
         assert!(rt; !fits_report(system, most), "at {most}");
@@ -93,7 +93,7 @@ fn check_writers(rt: &impl Abort, alloc: Global, system: &System<'_>) {
     assert!(rt; fits_trace(system, 76));
     assert!(rt; is_told(alloc, system, HELLO_REPORT));
     assert!(rt; is_traced(alloc, system, SHORT_TRACE));
-    assert_eq!(rt; first_steps(system), 9);
+    assert!(rt; first_steps(system) == 9);
     assert!(rt; is_first_output(system, "hi"));
 }
 
@@ -109,6 +109,14 @@ fn a_writer_that_fails_leaves_the_system(rt: HostRuntime) {
             None => assert!(rt; false, "no boot"),
         },
         None => assert!(rt; false, "no memory"),
+    }
+}
+
+// Whether this is a writer's failure.
+fn is_write_failed(outcome: Result<(), RunFault>) -> bool {
+    match outcome {
+        Err(RunFault::Write) => true,
+        _ => false,
     }
 }
 
@@ -132,17 +140,22 @@ fn trace_into(alloc: Global, config: &Config, files: &Files, most: usize) -> Res
 
 // Asserts that a run's report, and its trace, are written if and only if the writer has room for them.
 fn check_rooms(rt: &impl Abort, alloc: Global, config: &Config, files: &Files) {
-    let failed = Err(RunFault::Write);
     // Row failing-report.
     for most in 0..46 {
-        assert_eq!(rt; run_into(alloc, config, files, most), failed, "at {most}");
+        assert!(rt;
+            is_write_failed(run_into(alloc, config, files, most)),
+            "at {most}"
+        );
     }
-    assert_eq!(rt; run_into(alloc, config, files, 46), Ok(()));
+    assert!(rt; run_into(alloc, config, files, 46).is_ok());
     // Row failing-trace.
     for most in 0..76 {
-        assert_eq!(rt; trace_into(alloc, config, files, most), failed, "at {most}");
+        assert!(rt;
+            is_write_failed(trace_into(alloc, config, files, most)),
+            "at {most}"
+        );
     }
-    assert_eq!(rt; trace_into(alloc, config, files, 76), Ok(()));
+    assert!(rt; trace_into(alloc, config, files, 76).is_ok());
 }
 
 #[test]
@@ -158,29 +171,34 @@ fn a_run_ends_where_its_writer_fails(rt: HostRuntime) {
 fn check_short_writers(rt: &impl Abort, alloc: Global, config: &Config, files: &Files) {
     let mut bytes = [0u8; 40];
     let mut room = bytes.as_mut_slice();
-    let failed = run_on(alloc, config, files, 20, &mut room);
-    assert_eq!(rt; failed, Err(RunFault::Write));
+    assert!(rt; is_write_failed(run_on(alloc, config, files, 20, &mut room)));
     let mut bytes = [0u8; 40];
     let mut room = bytes.as_mut_slice();
-    let failed = trace_on(alloc, config, files, 20, "q", &mut room);
-    assert_eq!(rt; failed, Ok(()));
-    let failed = trace_on(alloc, config, files, 20, "p", &mut room);
-    assert_eq!(rt; failed, Err(RunFault::Write));
+    assert!(rt; trace_on(alloc, config, files, 20, "q", &mut room).is_ok());
+    assert!(rt; is_write_failed(trace_on(alloc, config, files, 20, "p", &mut room)));
+}
+
+// Whether this is the want of the image of the partition at this place.
+fn is_missing(outcome: Result<(), RunFault>, place: u8) -> bool {
+    outcome == Err(RunFault::Boot(BootFault::MissingFile(PartId::new(place))))
+}
+
+// Whether no partition has the name.
+fn is_unknown(outcome: Result<(), RunFault>) -> bool {
+    match outcome {
+        Err(RunFault::NoPartition) => true,
+        _ => false,
+    }
 }
 
 // Asserts that an unknown name comes before missing files, and the first missing file before the second.
 fn check_missing(rt: &impl Abort, alloc: Global, config: &Config) {
     let mut out = Vec::new(alloc);
     let mut files = Files::new(alloc);
-    let unknown = trace_on(alloc, config, &files, 20, "z", &mut out);
-    assert_eq!(rt; unknown, Err(RunFault::NoPartition));
-    let first = RunFault::Boot(BootFault::MissingFile(PartId::new(0)));
-    let missing = run_on(alloc, config, &files, 20, &mut out);
-    assert_eq!(rt; missing, Err(first));
+    assert!(rt; is_unknown(trace_on(alloc, config, &files, 20, "z", &mut out)));
+    assert!(rt; is_missing(run_on(alloc, config, &files, 20, &mut out), 0));
     assert!(rt; files.add("p.img", b"").is_ok());
-    let second = RunFault::Boot(BootFault::MissingFile(PartId::new(1)));
-    let missing = trace_on(alloc, config, &files, 20, "p", &mut out);
-    assert_eq!(rt; missing, Err(second));
+    assert!(rt; is_missing(trace_on(alloc, config, &files, 20, "p", &mut out), 1));
     assert!(rt; out.is_empty());
 }
 

@@ -83,24 +83,49 @@ const WINDOWS: [(&str, u32); 8] = [
     ("quiet", 15625),
 ];
 
-// Every part of the configuration, one after the other.
-fn text_of(alloc: Global) -> Result<String, AllocError> {
-    let mut text = String::from_str(alloc, "frame = 1000000\n")?;
-    for (head, stack, input) in SECTIONS {
-        text.push_str(head)?;
-        text.push_str(GREATEST)?;
-        text.push_str(stack)?;
-        text.push_str(input)?;
+// Puts a section with its numbers.
+fn push_section(text: &mut String, head: &str, stack: &str, input: &str) -> Result<(), AllocError> {
+    text.push_str(head)?;
+    text.push_str(GREATEST)?;
+    text.push_str(stack)?;
+    text.push_str(input)
+}
+
+// Puts a window.
+fn push_window(
+    alloc: Global,
+    text: &mut String,
+    start: u32,
+    name: &str,
+    length: u32,
+) -> Result<(), AllocError> {
+    let window = format!(in alloc;
+        "[[window]]\nstart = {start}\nlength = {length}\npartition = \"{name}\"\n"
+    )?;
+    text.push_str(window.as_str())
+}
+
+// Puts every part of the configuration, one after the other.
+fn push_parts(alloc: Global, text: &mut String) -> Result<(), AllocError> {
+    text.push_str("frame = 1000000\n")?;
+    for (head, stack, input) in SECTIONS.iter() {
+        push_section(text, head, stack, input)?;
     }
     for k in 0..64u32 {
-        let (name, length) = WINDOWS[(k % 8) as usize];
-        let start = 15625 * k;
-        let window = format!(in alloc;
-            "[[window]]\nstart = {start}\nlength = {length}\npartition = \"{name}\"\n"
-        )?;
-        text.push_str(window.as_str())?;
+        let windows = &WINDOWS;
+        let (name, length) = windows[(k % 8) as usize];
+        push_window(alloc, text, 15625 * k, name, length)?;
     }
-    Ok(text)
+    Ok(())
+}
+
+// The configuration.
+fn config_at_limits(alloc: Global) -> Option<Config> {
+    let mut text = String::new(alloc);
+    match push_parts(alloc, &mut text) {
+        Ok(()) => config_of(alloc, &[text.as_str()]),
+        Err(_) => None,
+    }
 }
 
 // The images, but for that of `cut`.
@@ -113,24 +138,22 @@ const IMAGES: [(&str, &str); 6] = [
     ("quiet.img", sources::QUIET),
 ];
 
-// The files with the images.
-fn images_of(alloc: Global) -> Option<Files> {
-    let mut files = Files::new(alloc);
-    for (name, source) in IMAGES {
-        let image = image_of(alloc, &[source])?;
-        files.add(name, &image).ok()?;
+// Adds an image, if there is one, and says whether it is there.
+fn has_added(files: &mut Files, name: &str, image: Option<Vec<u8>>) -> bool {
+    match image {
+        Some(image) => files.add(name, &image).is_ok(),
+        None => false,
     }
-    let cut = image_cut_short(alloc, sources::HELLO)?;
-    files.add("cut.img", &cut).ok()?;
-    Some(files)
 }
 
-// The configuration and the files, None where there are none.
-fn greatest(alloc: Global) -> Option<(Config, Files)> {
-    let text = text_of(alloc).ok()?;
-    let config = config_of(alloc, &[text.as_str()])?;
-    let files = images_of(alloc)?;
-    Some((config, files))
+// Adds all images, and says whether they are there.
+fn have_added(alloc: Global, files: &mut Files) -> bool {
+    for (name, source) in IMAGES.iter() {
+        if !has_added(files, name, image_of(alloc, &[*source])) {
+            return false;
+        }
+    }
+    has_added(files, "cut.img", image_cut_short(alloc, sources::HELLO))
 }
 
 // Adds the trace lines of `spin` at these ticks.
@@ -150,30 +173,39 @@ fn last_steps(alloc: Global) -> Result<String, AllocError> {
     Ok(text)
 }
 
+// Whether these are the last steps of `spin`.
+fn are_last_steps(alloc: Global, trace: &[u8]) -> bool {
+    match last_steps(alloc) {
+        Ok(want) => is_text(trace, want.as_bytes()),
+        Err(_) => false,
+    }
+}
+
 // Whether the trace of `spin` has these steps.
 fn is_traced(alloc: Global, config: &Config, files: &Files) -> bool {
     let mut out = Vec::new(alloc);
-    match (
-        trace_on(alloc, config, files, TICKS, "spin", &mut out),
-        last_steps(alloc),
-    ) {
-        (Ok(()), Ok(want)) => is_text(&out, want.as_bytes()),
-        _ => false,
+    match trace_on(alloc, config, files, TICKS, "spin", &mut out) {
+        Ok(()) => are_last_steps(alloc, &out),
+        Err(_) => false,
     }
 }
 
 const GREATEST_REPORT: &str =
     "partition spin running steps 17000 lost 0\noutput 0\n\npartition hello exit 0 steps 9 lost 0\noutput 2\nhi\npartition late exit 0 steps 4 lost 0\noutput 0\n\npartition cut refused image 4 steps 0 lost 0\noutput 0\n\npartition bare idle steps 0 lost 0\noutput 0\n\npartition empty fault illegal pc 0x00000000 steps 1 lost 0\noutput 0\n\npartition join exit 7 steps 16 lost 0\noutput 0\n\npartition quiet exit 0 steps 3 lost 0\noutput 0\n\n";
 
+// Whether the run has its report and its trace.
+fn is_run(alloc: Global, config: &Config, files: &Files) -> bool {
+    let report = report_of(alloc, config, files, u64::from(TICKS));
+    is_some_text(report, GREATEST_REPORT) && is_traced(alloc, config, files)
+}
+
 #[test]
 fn the_greatest_system_is_run(rt: HostRuntime) {
     let alloc = rt.alloc();
-    match greatest(alloc) {
-        Some((config, files)) => {
-            let report = report_of(alloc, &config, &files, u64::from(TICKS));
-            assert!(rt; is_some_text(report, GREATEST_REPORT));
-            assert!(rt; is_traced(alloc, &config, &files));
-        }
+    let mut files = Files::new(alloc);
+    assert!(rt; have_added(alloc, &mut files), "no image");
+    match config_at_limits(alloc) {
+        Some(config) => assert!(rt; is_run(alloc, &config, &files)),
         None => assert!(rt; false, "no configuration"),
     }
 }

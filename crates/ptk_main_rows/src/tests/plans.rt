@@ -1,14 +1,18 @@
 //! Window plans, and plans that are refused.
 
+use super::check_cuts;
 use ptk_config::read_config;
 use ptk_main_faults::{Fault, fault_line};
 use ptk_main_guests::plans::{CUTS, FRAME, Q};
-use ptk_main_guests::{NUMBERS, P, first_wrong_cuts};
+use ptk_main_guests::{CutRow, NUMBERS, P};
 use std::alloc::Global;
+
+// The rows, as a table that is not made anew.
+static ROWS: [CutRow<'static>; 8] = CUTS;
 
 #[test]
 fn rows_of_plans(rt: HostRuntime) {
-    assert_eq!(rt; first_wrong_cuts(rt.alloc(), &CUTS), None);
+    check_cuts(&rt, rt.alloc(), &ROWS);
 }
 
 // Whether the configuration that these parts make is refused with this line.

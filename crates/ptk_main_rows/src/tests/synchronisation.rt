@@ -1,31 +1,31 @@
 //! The worked rows of mutexes and condition variables.
 
-use ptk_main_guests::{first_wrong_row, first_wrong_trace};
+use super::{check_rows, check_traces};
 use ptk_main_synchronisation::{conditions, deadlines, kinds, priorities, robust};
 
 #[test]
 fn rows_of_conditions(rt: HostRuntime) {
-    assert_eq!(rt; first_wrong_row(rt.alloc(), &conditions::ROWS), None);
-    assert_eq!(rt; first_wrong_trace(rt.alloc(), &conditions::TRACES), None);
+    check_rows(&rt, rt.alloc(), &conditions::ROWS);
+    check_traces(&rt, rt.alloc(), &conditions::TRACES);
 }
 
 #[test]
 fn rows_of_deadlines(rt: HostRuntime) {
-    assert_eq!(rt; first_wrong_row(rt.alloc(), &deadlines::ROWS), None);
+    check_rows(&rt, rt.alloc(), &deadlines::ROWS);
 }
 
 #[test]
 fn rows_of_kinds(rt: HostRuntime) {
-    assert_eq!(rt; first_wrong_row(rt.alloc(), &kinds::ROWS), None);
-    assert_eq!(rt; first_wrong_trace(rt.alloc(), &kinds::TRACES), None);
+    check_rows(&rt, rt.alloc(), &kinds::ROWS);
+    check_traces(&rt, rt.alloc(), &kinds::TRACES);
 }
 
 #[test]
 fn rows_of_priorities(rt: HostRuntime) {
-    assert_eq!(rt; first_wrong_row(rt.alloc(), &priorities::ROWS), None);
+    check_rows(&rt, rt.alloc(), &priorities::ROWS);
 }
 
 #[test]
 fn rows_of_robust(rt: HostRuntime) {
-    assert_eq!(rt; first_wrong_row(rt.alloc(), &robust::ROWS), None);
+    check_rows(&rt, rt.alloc(), &robust::ROWS);
 }
