@@ -84,10 +84,8 @@ impl Config {
     }
 
     /// Makes the trace of a partition keep this many of its last entries, at most 1048576; the key `trace` of a
-    /// document is 0 to
-    /// 1024. All else stays: it is the same run, and its trace has the last entries of that run
-    ///       (`deeper_trace_is_same_run`
-    /// of `ptk_impact`).
+    /// document is 0 to 1024. All else stays: it is the same run, and its trace has the last entries of that run
+    /// (`deeper_trace_is_same_run` of `ptk_impact`).
     pub fn keep_trace(&mut self, p: PartId, entries: u32)
         requires place { p < length self.old.sections }
         requires few { entries ≤ 1048576 }

@@ -1,7 +1,6 @@
 -- A value that is read, or the first fault with its place.
 use Rattle.std.specs.Prelude.{ℕ, ◌+◌, List, codes, Result, Ok, Err, ◌≡◌, ◌≢◌}
 use Rattle.toml.specs.Data.{Data, Items, no_items, item, Members}
-use Rattle.ptk_config.specs.declared.fault.ConfigFault.{ConfigFault}
 use Rattle.ptk_config.specs.declared.fault.ConfigFault.TheVariants as fault
 use Rattle.ptk_config.specs.Reading.{Checked, number, array}
 pub use Rattle.ptk_config.specs.Reading.{◌>>=◌}

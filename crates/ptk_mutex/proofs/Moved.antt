@@ -1,5 +1,5 @@
 -- What the calls need of the tables, and what the tables are after a move of one partition.
-use Rattle.std.proofs.Common.{◌≡◌, ℕ, ◌-◌, ◌<◌, ◌≤◌, List, refl, sym, ◌∙◌, ap, arith, true, false}
+use Rattle.std.proofs.Common.{◌≡◌, ℕ, ◌-◌, List, refl, sym, ◌∙◌, ap, false}
 use Rattle.std.specs.Prelude.{IsSome, Option, Some, None, option_map, option_and_then, option_to_list}
 use Rattle.std.proofs.lemmas.List.{length-set, set-set, set-get_or}
 use Rattle.ptk_words.specs.Pools.{pool_get, pool_set, first_of_greatest}

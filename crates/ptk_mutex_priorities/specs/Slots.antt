@@ -28,6 +28,7 @@ state_of m =
       count = m.count;
     }
 
+-- the state of a mutex made of a state is that state
 pub state_of-bare : (state : Option MutexState) → option_map state_of (option_map (mutex_with []) state) ≡ state
 state_of-bare None = refl
 state_of-bare (Some state) = refl

@@ -25,6 +25,7 @@ pub filter_agree : (p q : ℕ → Bool) (xs : List ℕ) → ((k : ℕ) → is_in
 filter_agree p q [] h = refl
 filter_agree p q (x ∷ xs) h = rw (h x (in_here x xs), filter_agree p q xs (λ k inside. h k (in_later k x xs inside))) refl
 
+-- where two conditions hold together, each holds
 both_true : (a b : Bool) → (a && b) ≡ true → (a ≡ true) × (b ≡ true)
 both_true true true h = (refl, refl)
 both_true true false h = absurd (cc)
@@ -60,6 +61,7 @@ filed_take limit range a b stored after stamps bitmap same levels filed = record
   bits = λ i lt. filed.bits i lt ∙ sym (ap has_any (list_take a b i same lt));
 }
 
+-- a member of a list of a priority is in the line
 filed_member : (limit : ℕ) (range : StampRange) (lists : List (List ℕ)) (stored : List ℕ) (stamps : List ℤ) (bitmap k i : ℕ) → IsFiled limit range lists stored stamps bitmap → i < 32 → is_in k (part_of lists i) ≡ true → is_in k (line_of lists stamps) ≡ true
 filed_member limit range lists stored stamps bitmap k i filed lt inside = (in_priority stored (suc i) k (line_of lists stamps) (subst (λ l. is_in k l ≡ true) (filed.lines i lt) inside)).1
 
@@ -79,6 +81,7 @@ lines_long [] queues = refl
 lines_long (entries ∷ line) [] = ap suc (lines_long line [])
 lines_long (entries ∷ line) (lists ∷ queues) = ap suc (lines_long line queues)
 
+-- the first 32 lists of a partition are the same where the queues of ready threads are
 first_same : (a b : List (List (List ℕ))) (p : ℕ) → ready_queues a ≡ ready_queues b → take 32 (part_of a p) ≡ take 32 (part_of b p)
 first_same a b p same = sym (get_or-map (take 32) a p []) ∙ (ap (λ queues. part_of queues p) same ∙ get_or-map (take 32) b p [])
 

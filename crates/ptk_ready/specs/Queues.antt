@@ -27,6 +27,7 @@ AreUnused queues = (p i : ℕ) → i < 32 → part_of (part_of queues p) i ≡ [
 
 -- ---- what the laws of a line without queues say
 
+-- a list of the first 32 is the same in the queues of ready threads
 list_ready : (queues : List (List (List ℕ))) (p i : ℕ) → i < 32 → part_of (part_of (ready_queues queues) p) i ≡ part_of (part_of queues p) i
 list_ready queues p i lt = ap (λ lists. part_of lists i) (get_or-map (take 32) queues p []) ∙ get_or-take 32 (part_of queues p) i [] lt
 
