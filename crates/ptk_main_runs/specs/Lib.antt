@@ -5,6 +5,7 @@ pub mod Members
 pub use Rattle.ptk_system.specs.Missing
 pub use Rattle.ptk_system.specs.World
 pub use Rattle.ptk_system.specs.Activities
+pub use Rattle.ptk_system.specs.Going
 pub use Rattle.ptk_system.specs.declared.activity.Activity
 pub use Rattle.ptk_system.specs.declared.status.PartStatus
 pub use Rattle.ptk_system.specs.Told

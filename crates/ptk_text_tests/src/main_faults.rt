@@ -71,7 +71,7 @@ fn a_window_of_fifteen_ticks_is_refused(rt: HostRuntime) {
     assert!(rt; is_refused);
 }
 
-/// Whether a fault is want of memory.
+/// Whether a fault says that memory ran out.
 fn is_no_memory(fault: Fault<'_>) -> bool {
     match fault {
         Fault::NoMemory => true,

@@ -33,7 +33,7 @@ impl Scale {
         Scale { from, to, each }
     }
 
-    /// How many ticks a column stands for, where this many are in at most so many columns.
+    /// How many ticks a column stands for, where these ticks fill at most this many columns.
     fn ticks_each(ticks: u64, most: u64) -> u64
         ensures value { result ≡ ticks_each ticks most }
         ensures some { 0 < result }
