@@ -8,7 +8,8 @@
 //!
 //! By `told` of `specs/` the clauses of callers say which fault it is by the text of its name alone. Below are
 //! `ptk_words`, `ptk_words_windows`, `ptk_asm_language` and `ptk_config`, whose faults have the numbers; above is the
-//! program, which writes nothing else on standard error but `clap`'s texts. No clause is costly to prove.
+//! program, which besides writes on standard error `clap`'s texts, on request why a text is refused, and the progress
+//! of a run. No clause is costly to prove.
 
 mod fault;
 mod status;
