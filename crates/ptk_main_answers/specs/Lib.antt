@@ -11,3 +11,4 @@ pub mod HostFaults
 pub mod Json
 pub mod Documents
 pub use Rattle.ptk_main_runs.specs.Parts
+pub use Rattle.ptk_main_runs.specs.World

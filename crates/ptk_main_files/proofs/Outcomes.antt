@@ -19,7 +19,7 @@ use Rattle.ptk_main_faults.specs.declared.status.ExitStatus.{ExitStatus}
 use Rattle.ptk_main_faults.specs.declared.status.ExitStatus.TheVariants.{Different, Done}
 use Rattle.ptk_main_tools.specs.NamedFiles.{NamedFile}
 use Rattle.ptk_main_tools.specs.Reading.{AreImagesOf, IsConfigFault}
-use Rattle.ptk_main_runs.specs.World.{World, world_at}
+use Rattle.ptk_main_answers.specs.World.{World, world_at}
 use Rattle.ptk_main_answers.specs.Expectations.{IsFailed, IsFirstDifference, IsPassed, IsReport}
 use Rattle.ptk_main_answers.specs.HostFaults.{IsHostFault}
 use Rattle.ptk_main_answers.specs.Refusals.{IsFaultOf, missing_image}

@@ -7,4 +7,4 @@ pub use Rattle.ptk_main_answers.specs.Refusals
 pub use Rattle.ptk_main_tools.specs.Reading
 pub use Rattle.ptk_main_tools.specs.Usage
 pub use Rattle.ptk_main_tools.specs.NamedFiles
-pub use Rattle.ptk_main_runs.specs.World
+pub use Rattle.ptk_main_answers.specs.World

@@ -19,7 +19,7 @@ use Rattle.ptk_main_faults.specs.declared.fault.Fault.TheVariants.{NotText, Writ
 use Rattle.ptk_main_faults.specs.declared.status.ExitStatus.TheVariants.{Unexpected}
 use Rattle.ptk_main_tools.specs.NamedFiles.{NamedFile}
 use Rattle.ptk_main_tools.specs.Reading.{AreImagesOf, IsImagesFault, IsReadFault, IsSymbolsFileFault}
-use Rattle.ptk_main_runs.specs.World.{world_at}
+use Rattle.ptk_main_answers.specs.World.{world_at}
 use Rattle.ptk_main_answers.specs.Answers.{ok_line, trace_of}
 use Rattle.ptk_main_answers.specs.Documents.{check_text}
 use Rattle.ptk_main_answers.specs.Expectations.{IsFailed, IsPassed}
