@@ -2,12 +2,8 @@ pub mod Lists
 pub mod Lines
 pub mod Texts
 pub mod Values
-pub mod Written
 pub mod Traces
-pub mod Instants
-pub mod JsonNames
 pub mod Holding
-pub mod Each
 pub mod Reached
 pub mod Stretches
 pub mod Turns

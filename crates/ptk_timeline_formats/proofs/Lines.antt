@@ -6,9 +6,9 @@ use Rattle.std.proofs.Math.Seq.{drop-cons}
 use Rattle.std.proofs.lemmas.List.{append_assoc}
 use Rattle.std.specs.Io.KnownBytes.{Appends}
 use Rattle.std.proofs.KnownBytes.{Appends-nil, Appends-trans}
-use Rattle.ptk_timeline_formats.specs.declared.change.Change.{Change}
-use Rattle.ptk_timeline_formats.specs.declared.change.Change.TheVariants.{Lost, Dropped}
-use Rattle.ptk_timeline_formats.specs.Signals.{changes_lines, lines_if, tick_behind_all, tick_behind_if}
+use Rattle.ptk_timeline_changes.specs.declared.change.Change.{Change}
+use Rattle.ptk_timeline_changes.specs.declared.change.Change.TheVariants.{Lost, Dropped}
+use Rattle.ptk_timeline_formats.specs.Changes.{changes_lines, lines_if, tick_behind_all, tick_behind_if}
 
 -- the changes from a place on begin with the one there
 pub changes_from : (i : ℕ) (changes : List (Option Change)) (item default : Option Change) → i < length changes → get_or changes i default ≡ item

@@ -1,10 +1,10 @@
 -- The tick of which a dump's last line is, behind what a view writes.
 use Rattle.std.proofs.Common.{◌≡◌, ◌∙◌, ℕ, Bool, true, false, List, [], ◌∷◌, Option, refl, ap, ap₂}
 use Rattle.std.specs.Bool.{then_some}
-use Rattle.ptk_timeline_formats.specs.declared.change.Change.{Change}
-use Rattle.ptk_timeline_formats.specs.declared.change.Change.TheVariants.{Lost, Dropped}
-use Rattle.ptk_timeline_formats.specs.declared.change.ShownSince.{ShownSince}
-use Rattle.ptk_timeline_formats.specs.Signals.{tick_behind_all}
+use Rattle.ptk_timeline_changes.specs.declared.change.Change.{Change}
+use Rattle.ptk_timeline_changes.specs.declared.change.Change.TheVariants.{Lost, Dropped}
+use Rattle.ptk_timeline_changes.specs.declared.change.ShownSince.{ShownSince}
+use Rattle.ptk_timeline_formats.specs.Changes.{tick_behind_all}
 
 -- behind a partition's changes, and behind them its threads
 pub part_reached : (threads_behind : ℕ → List ShownSince → ℕ) (at behind last tick : ℕ) (first second one other : Option Change) (threads kept : List ShownSince)

@@ -4,11 +4,11 @@ use Rattle.std.specs.Prelude.{⊤, IfSome, MatchBool, MatchOption, vec_len}
 use Rattle.std.specs.Io.KnownBytes.{Appends}
 use Rattle.std.proofs.KnownBytes.{Appends-nil}
 use Rattle.ptk_words_model.specs.State.{Part, State}
-use Rattle.ptk_timeline_formats.specs.declared.step.Step.{Step}
+use Rattle.ptk_timeline_changes.specs.declared.step.Step.{Step}
 use Rattle.ptk_timeline_formats.specs.declared.view.PartView.{PartView}
 use Rattle.ptk_timeline_formats.specs.Runs.{IsEndShown, IsStepShown, same_runner, same_status, same_thread, shown_as, stepped_as}
-use Rattle.ptk_timeline_formats.specs.Shown.{AreShown}
 use Rattle.ptk_timeline_formats.specs.Texts.{part_behind, part_text}
+use Rattle.ptk_timeline_formats.specs.Views.{AreShown}
 
 module _ {S W : Type 0} (at_of : S → ℕ) (contents : W → Option (List ℕ)) (p tick : ℕ) (sheet later : S) (out written : W) (before after : PartView) where
   -- behind plain steps

@@ -7,10 +7,10 @@ use Rattle.std.proofs.Math.Seq.{drop-cons}
 use Rattle.std.proofs.lemmas.List.{append_assoc}
 use Rattle.std.specs.Io.KnownBytes.{Appends}
 use Rattle.std.proofs.KnownBytes.{Appends-nil, Appends-trans}
-use Rattle.ptk_timeline_formats.specs.declared.shown.Shown.{Shown}
-use Rattle.ptk_timeline_formats.specs.declared.change.ShownSince.{ShownSince}
-use Rattle.ptk_timeline_formats.specs.declared.change.Change.{Change}
-use Rattle.ptk_timeline_formats.specs.Signals.{changes_lines, tick_behind_all}
+use Rattle.ptk_timeline_changes.specs.declared.shown.Shown.{Shown}
+use Rattle.ptk_timeline_changes.specs.declared.change.ShownSince.{ShownSince}
+use Rattle.ptk_timeline_changes.specs.declared.change.Change.{Change}
+use Rattle.ptk_timeline_formats.specs.Changes.{changes_lines, tick_behind_all}
 use Rattle.ptk_timeline_formats.specs.Texts.{thread_text, threads_behind, threads_text}
 
 module _ (same : Shown → Shown → Bool) (shown : ℕ → Shown) (tick p : ℕ) (threads : List ShownSince) where

@@ -8,17 +8,19 @@ use Rattle.std.proofs.KnownBytes.{Appends-trans}
 use Rattle.std.proofs.lemmas.Bool.{le-ltb}
 use Rattle.ptk_words.specs.declared.TheConstants.{THREAD_LIMIT}
 use Rattle.ptk_words_model.specs.State.{Part, State}
-use Rattle.ptk_main_runs.specs.PartStatus.{PartStatus}
-use Rattle.ptk_timeline_formats.specs.declared.change.Change.{Change}
-use Rattle.ptk_timeline_formats.specs.declared.change.Change.TheVariants.{WindowEnds, Status, Runner, Lost, Dropped}
-use Rattle.ptk_timeline_formats.specs.declared.change.ShownSince.{ShownSince}
-use Rattle.ptk_timeline_formats.specs.declared.shown.Doing.{Doing}
-use Rattle.ptk_timeline_formats.specs.declared.shown.Shown.{Shown}
-use Rattle.ptk_timeline_formats.specs.declared.step.Step.{Step}
+use Rattle.ptk_timeline_changes.specs.PartStatus.{PartStatus}
+use Rattle.ptk_timeline_changes.specs.declared.change.Change.{Change}
+use Rattle.ptk_timeline_changes.specs.declared.change.Change.TheVariants.{WindowEnds, Status, Runner, Lost, Dropped}
+use Rattle.ptk_timeline_changes.specs.declared.change.ShownSince.{ShownSince}
+use Rattle.ptk_timeline_changes.specs.declared.shown.Doing.{Doing}
+use Rattle.ptk_timeline_changes.specs.declared.shown.Shown.{Shown}
+use Rattle.ptk_timeline_changes.specs.declared.step.Step.{Step}
+use Rattle.ptk_timeline_changes.specs.Events.{halt_text, start_text, thread_track, window_slice, windows_track}
+use Rattle.ptk_timeline_changes.specs.Shown.{is_step_of, shown_in}
 use Rattle.ptk_timeline_formats.specs.declared.view.PartView.{PartView}
-use Rattle.ptk_timeline_formats.specs.Events.{changes_events, halt_text, numbered_events, start_text, thread_events, thread_track, window_slice, windows_track}
-use Rattle.ptk_timeline_formats.specs.Shown.{is_step_of, shown_in, start_in}
-use Rattle.ptk_timeline_formats.specs.Traces.{first_events, lost_changes, lost_events, numbered_start}
+use Rattle.ptk_timeline_formats.specs.Changes.{changes_events}
+use Rattle.ptk_timeline_formats.specs.Traces.{first_events, lost_changes, lost_events, numbered_events, numbered_start, thread_events}
+use Rattle.ptk_timeline_formats.specs.Views.{start_in}
 
 -- the events of a thread, for the same symbols
 pub thread_traced : (same : Shown → Shown → Bool) (does_same : Doing → Doing → Bool) (symbols own : List (ℕ × List ℕ)) (step : Option Step) (s : Part) (p tick t : ℕ) (kept : ShownSince) (now new : Option (List ℕ))

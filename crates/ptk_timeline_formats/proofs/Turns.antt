@@ -8,7 +8,7 @@ use Rattle.std.specs.Io.KnownBytes.{Appends}
 use Rattle.std.proofs.KnownBytes.{Appends-trans}
 use Rattle.ptk_words_windows.specs.Windows.{IsFirstOwn, IsOwn, IsOwnUntil, WindowPlan}
 use Rattle.ptk_config.specs.Configuration.{Configuration}
-use Rattle.ptk_main_runs.specs.World.{World}
+use Rattle.ptk_timeline_changes.specs.World.{World}
 use Rattle.ptk_timeline_formats.specs.declared.board.Board.{Board}
 use Rattle.ptk_timeline_formats.specs.declared.view.PartView.{PartView}
 use Rattle.ptk_timeline_formats.specs.Holders.{closing_lines, earlier, opened, opening_lines, tick_behind_closing, tick_behind_opening}

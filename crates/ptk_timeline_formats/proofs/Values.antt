@@ -8,10 +8,11 @@ use Rattle.std.proofs.lemmas.Bool.{le-ltb}
 use Rattle.std.proofs.lemmas.List.{append_assoc}
 use Rattle.std.specs.Io.KnownBytes.{Appends}
 use Rattle.std.proofs.KnownBytes.{Appends-nil, Appends-trans}
-use Rattle.ptk_main_runs.specs.PartStatus.{PartStatus}
-use Rattle.ptk_timeline_formats.specs.declared.change.ShownSince.{ShownSince}
-use Rattle.ptk_timeline_formats.specs.declared.change.Change.TheVariants.{WindowEnds, Status, Runner}
-use Rattle.ptk_timeline_formats.specs.Signals.{SIGNALS, bit_line, changes_lines, lines_at, number_or_none, priority_line, state_line, status_number, tick_line, vector_line}
+use Rattle.ptk_timeline_changes.specs.PartStatus.{PartStatus}
+use Rattle.ptk_timeline_changes.specs.declared.change.ShownSince.{ShownSince}
+use Rattle.ptk_timeline_changes.specs.declared.change.Change.TheVariants.{WindowEnds, Status, Runner}
+use Rattle.ptk_timeline_changes.specs.Signals.{SIGNALS, bit_line, number_or_none, priority_line, state_line, status_number, vector_line}
+use Rattle.ptk_timeline_formats.specs.Changes.{changes_lines, lines_at, tick_line}
 use Rattle.ptk_timeline_formats.specs.Texts.{values_text}
 
 -- lines behind the line of their tick have no other

@@ -7,14 +7,14 @@ use Rattle.std.proofs.lemmas.Result.{on_ok_weaker}
 use Rattle.std.specs.Io.KnownBytes.{Appends}
 use Rattle.std.proofs.KnownBytes.{Appends-nil, Appends-trans}
 use Rattle.ptk_config.specs.Configuration.{Configuration}
-use Rattle.ptk_main_runs.specs.World.{World}
+use Rattle.ptk_timeline_changes.specs.World.{World}
+use Rattle.ptk_timeline_changes.specs.Dumps.{dump_head, each_text}
 use Rattle.ptk_timeline_formats.specs.declared.board.Board.{Board}
 use Rattle.ptk_timeline_formats.specs.declared.sheet.Form.TheVariants.{Vcd}
 use Rattle.ptk_timeline_formats.specs.declared.view.PartView.{PartView}
-use Rattle.ptk_timeline_formats.specs.Dumps.{dump_head}
+use Rattle.ptk_timeline_formats.specs.Changes.{text_behind_first, tick_line}
 use Rattle.ptk_timeline_formats.specs.Runs.{AreFirstViews, AreTurns, IsDump, Stand, last_line}
-use Rattle.ptk_timeline_formats.specs.Signals.{text_behind_first, tick_line}
-use Rattle.ptk_timeline_formats.specs.Texts.{each_text, first_text}
+use Rattle.ptk_timeline_formats.specs.Texts.{first_text}
 
 ok_always : {A E P : Type 0} (r : Result A E) → P → OnOk r P
 ok_always (Ok x) p = p

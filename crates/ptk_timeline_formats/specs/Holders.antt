@@ -1,9 +1,9 @@
 -- Whose window it is, and what a dump and a trace have of it.
 use Rattle.std.specs.Prelude.{ℕ, min, List, [], ◌++◌, Bool, false, ◌==◌, if◌then◌else◌, Option, Some, None}
+use Rattle.ptk_timeline_changes.specs.declared.change.Change.TheVariants.{WindowBegins, WindowEnds}
+use Rattle.ptk_timeline_changes.specs.Events.{change_events}
 use Rattle.ptk_timeline_formats.specs.declared.board.Holder.{Holder}
-use Rattle.ptk_timeline_formats.specs.declared.change.Change.TheVariants.{WindowBegins, WindowEnds}
-use Rattle.ptk_timeline_formats.specs.Events.{change_events}
-use Rattle.ptk_timeline_formats.specs.Signals.{change_lines}
+use Rattle.ptk_timeline_formats.specs.Changes.{change_lines}
 
 -- the window of a partition is open already
 abbrev pub is_open : ℕ → Option Holder → Bool

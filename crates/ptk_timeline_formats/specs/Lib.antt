@@ -1,11 +1,8 @@
-pub mod Shown
-pub mod Steps
 pub mod Faults
-pub mod Signals
-pub mod Events
+pub mod Changes
+pub mod Views
 pub mod Holders
 pub mod Texts
 pub mod Traces
-pub mod Dumps
 pub mod Runs
-pub use Rattle.ptk_main_runs.specs.Missing
+pub use Rattle.ptk_timeline_changes.specs.Missing

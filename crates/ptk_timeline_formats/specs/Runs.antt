@@ -10,23 +10,23 @@ use Rattle.ptk_words_windows.specs.Windows.{IsFirstOwn, IsOwn, IsOwnUntil, Windo
 use Rattle.ptk_words_model.specs.Priority.{effective_priority}
 use Rattle.ptk_words_model.specs.State.{Part, State}
 use Rattle.ptk_config.specs.Configuration.{Configuration}
-use Rattle.ptk_main_runs.specs.Activities.{activity_in}
-use Rattle.ptk_main_runs.specs.Activity.TheVariants.{Running}
-use Rattle.ptk_main_runs.specs.PartStatus.{PartStatus}
-use Rattle.ptk_main_runs.specs.World.{World, at_tick, but_next, section_at, state_of}
-use Rattle.ptk_main_runs.below.ptk_system.specs.contracts.status.PartStatusPartialEq.TheImpl as status_eq
-use Rattle.ptk_timeline_formats.specs.contracts.shown.ShownPartialEq.TheImpl as shown_eq
+use Rattle.ptk_timeline_changes.specs.Activities.{activity_in}
+use Rattle.ptk_timeline_changes.specs.Activity.TheVariants.{Running}
+use Rattle.ptk_timeline_changes.specs.PartStatus.{PartStatus}
+use Rattle.ptk_timeline_changes.specs.World.{World, at_tick, but_next, section_at, state_of}
+use Rattle.ptk_timeline_changes.below.ptk_system.specs.contracts.status.PartStatusPartialEq.TheImpl as status_eq
+use Rattle.ptk_timeline_changes.specs.declared.shown.Shown.{Shown}
+use Rattle.ptk_timeline_changes.specs.declared.step.Step.{Step}
+use Rattle.ptk_timeline_changes.specs.contracts.shown.ShownPartialEq.TheImpl as shown_eq
+use Rattle.ptk_timeline_changes.specs.Dumps.{dump_head, each_text}
+use Rattle.ptk_timeline_changes.specs.Steps.{is_step_over, step_since, step_within, tick_behind_step}
 use Rattle.ptk_timeline_formats.specs.declared.board.Board.{Board}
 use Rattle.ptk_timeline_formats.specs.declared.sheet.Form.TheVariants.{Vcd}
-use Rattle.ptk_timeline_formats.specs.declared.shown.Shown.{Shown}
-use Rattle.ptk_timeline_formats.specs.declared.step.Step.{Step}
 use Rattle.ptk_timeline_formats.specs.declared.view.PartView.{PartView}
-use Rattle.ptk_timeline_formats.specs.Dumps.{dump_head}
+use Rattle.ptk_timeline_formats.specs.Changes.{text_behind_first, tick_line}
 use Rattle.ptk_timeline_formats.specs.Holders.{closing_lines, opened, opening_lines, tick_behind_closing, tick_behind_opening}
-use Rattle.ptk_timeline_formats.specs.Shown.{AreShown, kept_in, runner_shown, status_shown}
-use Rattle.ptk_timeline_formats.specs.Signals.{text_behind_first, tick_line}
-use Rattle.ptk_timeline_formats.specs.Steps.{is_step_over, step_since, step_within, tick_behind_step}
-use Rattle.ptk_timeline_formats.specs.Texts.{each_text, first_text, part_behind, part_text}
+use Rattle.ptk_timeline_formats.specs.Texts.{first_text, part_behind, part_text}
+use Rattle.ptk_timeline_formats.specs.Views.{AreShown, kept_in, runner_shown, status_shown}
 
 -- the status is the same
 abbrev pub same_status : PartStatus → PartStatus → Bool

@@ -5,20 +5,21 @@ use Rattle.std.specs.List.{concat}
 use Rattle.ptk_words.specs.Names.{ThreadNumber}
 use Rattle.ptk_words.specs.declared.TheConstants.{THREAD_LIMIT}
 use Rattle.ptk_words_model.specs.State.{Part}
-use Rattle.ptk_main_runs.specs.PartStatus.{PartStatus}
-use Rattle.ptk_timeline_formats.specs.declared.shown.Shown.{Shown}
-use Rattle.ptk_timeline_formats.specs.declared.step.Step.{Step}
-use Rattle.ptk_timeline_formats.specs.declared.change.ShownSince.{ShownSince}
-use Rattle.ptk_timeline_formats.specs.declared.change.Change.{Change}
-use Rattle.ptk_timeline_formats.specs.declared.change.Change.TheVariants.{Status, Runner}
+use Rattle.ptk_timeline_changes.specs.PartStatus.{PartStatus}
+use Rattle.ptk_timeline_changes.specs.declared.shown.Shown.{Shown}
+use Rattle.ptk_timeline_changes.specs.declared.step.Step.{Step}
+use Rattle.ptk_timeline_changes.specs.declared.change.ShownSince.{ShownSince}
+use Rattle.ptk_timeline_changes.specs.declared.change.Change.{Change}
+use Rattle.ptk_timeline_changes.specs.declared.change.Change.TheVariants.{Status, Runner}
+use Rattle.ptk_timeline_changes.specs.Shown.{is_step_of, shown_in}
+use Rattle.ptk_timeline_changes.specs.Signals.{SIGNALS, bit_line, is_free, number_or_none, priority_line, state_line, status_number, thread_lines, vector_line}
 use Rattle.ptk_timeline_formats.specs.declared.view.PartView.{PartView}
-use Rattle.ptk_timeline_formats.specs.Shown.{is_step_of, runner_shown, shown_in, status_shown}
-use Rattle.ptk_timeline_formats.specs.Signals.{SIGNALS, bit_line, changes_lines, lines_at, number_or_none, priority_line, shown_lines, state_line, status_number, tick_behind_all, vector_line}
+use Rattle.ptk_timeline_formats.specs.Changes.{changes_lines, lines_at, tick_behind_all}
+use Rattle.ptk_timeline_formats.specs.Views.{runner_shown, status_shown}
 
--- the texts of elements, one after another, each by its number, from this one on
-abbrev pub each_text : {A : Type 0} → (ℕ → A → List ℕ) → ℕ → List A → List ℕ
-each_text text n [] = []
-each_text text n (x ∷ xs) = text n x ++ each_text text (n + 1) xs
+-- the lines of a thread that is shown otherwise than before: both, where no thread had the number, else those of what is another (own)
+abbrev pub shown_lines : ℕ → ℕ → Shown → Shown → List ℕ
+shown_lines p t before shown = if is_free before.doing then state_line p t shown ++ priority_line p t shown else thread_lines p t before shown
 
 -- what a dump has at a tick of a thread that was shown so before, behind a line of tick `at`: nothing where it is shown so still, else its lines (own)
 abbrev pub thread_text : Bool → ℕ → ℕ → ℕ → ℕ → Shown → Shown → List ℕ

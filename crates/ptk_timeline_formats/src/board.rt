@@ -3,18 +3,18 @@
 ghost use Rattle.std.specs.Prelude.{◌≡◌, ◌≢◌, ℕ, ◌+◌, ◌<◌, ◌≤◌, List, None, Some, IfOk, OnOk, length, slice_index_or, take};
 ghost use Rattle.std.specs.Io.KnownBytes.{Appends};
 ghost use Rattle.ptk_words.specs.declared.TheConstants.{LAST_TICK};
-ghost use Rattle.ptk_main_runs.specs.World.{section_at};
+ghost use Rattle.ptk_timeline_changes.specs.World.{section_at};
+ghost use Rattle.ptk_timeline_changes.specs.Dumps.{each_text};
 ghost use Rattle.ptk_timeline_formats.specs.declared.sheet.Form.TheVariants.{Vcd, Events};
 ghost use Rattle.ptk_timeline_formats.specs.declared.view.PartView.{PartView};
 ghost use Rattle.ptk_timeline_formats.specs.Holders.{closing_events, closing_lines, earlier, is_open, opened, opening_events, opening_lines, tick_behind_closing, tick_behind_opening};
 ghost use Rattle.ptk_timeline_formats.specs.Runs.{AreFirstViews, AreTurns, IsGoneOver, IsNextStart, IsTurn, has_view};
-ghost use Rattle.ptk_timeline_formats.specs.Texts.{each_text, first_text};
+ghost use Rattle.ptk_timeline_formats.specs.Texts.{first_text};
 
-use crate::change::Change;
 use crate::sheet::Sheet;
 use crate::view::PartView;
 use ptk_config::Config;
-use ptk_main_runs::{PutFault, System};
+use ptk_timeline_changes::{Change, PARTS, PutFault, System};
 use ptk_words::{PartId, Tick};
 use std::alloc::{AllocError, Global};
 use std::io::Write;
@@ -256,9 +256,6 @@ impl Board {
         sheet.put(holder.partition, tick, &change, out)
     }
 }
-
-/// How many partitions a system has at most.
-pub(crate) const PARTS: usize = 8;
 
 /// How many threads the section of a partition allows.
 fn threads_of(system: &System<'_>, p: PartId) -> u32

@@ -4,8 +4,6 @@
 //!
 //! - What is kept of each thread at a change is what the system shows of it (`shown` of `show_threads`: `AreShown`,
 //!   `shown_in`); ticks never fall (`from`, `within` of `Sheet::put`).
-//! - The step that takes up a partition's ticks is its last one, where it made one since the last look, up to the next
-//!   decision or the window's end (`step` of `Step::since`: `step_since`).
 //! - The status and the running thread that are shown of a partition are the system's; while a step takes up its ticks
 //!   the partition is running, with the step's thread (`kept` of `PartView::new`, `show` and `settle`: `status_shown`,
 //!   `runner_shown`). Behind a decision the step, and the counts of steps, of lost ticks and of lost input, are the
@@ -16,32 +14,26 @@
 //!   `go_on` and `settle`: `part_text`), and all of it at the first tick (`dump` of `PartView::put_all`:
 //!   `first_text`).
 //! - A whole Value Change Dump is one of the run's (`dump` of `dump_with`: `IsDump`): the head, with a scope for each
-//!   partition and each thread (`dump_head`); what is shown at the first tick (`AreFirstViews`); then turn after turn of
-//!   the window plan, up to the last tick, with none left out (`IsTurn`); and in a window stretch after stretch, each a
-//!   decision, the plain steps behind it, and ticks at which nothing of the partition changes (`IsStretch`).
-//! - What trace events have of changes is the definition's too (`events` of `Sheet::put_each`: `change_events`), and so
-//!   is which changes a view writes: of what is shown, all that is not as before (`events` of `PartView::show`, `go_on`
-//!   and `settle`: `part_events`), at a decision what is lost too (`decide`: `decision_events`), the names of the threads
-//!   at the first tick and their slices at the last (`put_all`: `first_events`; `put_rest`: `last_events`). So are who
-//!   has ended a thread's wait (`waker_of`, `put_waking`), what the begin and the end of a window write in both forms
-//!   (`open_window`, `close_window`), and what is before the events: the names of the partitions, and the input
-//!   (`Sheet::put_head`: `events_head`).
+//!   partition and each thread (`dump_head`); what is shown at the first tick (`AreFirstViews`); then turn after turn
+//!   of the window plan, up to the last tick, with none left out (`IsTurn`); and in a window stretch after stretch,
+//!   each a decision, the plain steps behind it, and ticks at which nothing of the partition changes (`IsStretch`).
+//! - What trace events have of changes is the definition's too (`events` of `Sheet::put_each`: `changes_events`), and
+//!   so is which changes a view writes: of what is shown, all that is not as before (`events` of `PartView::show`,
+//!   `go_on` and `settle`: `part_events`), at a decision what is lost too (`decide`: `decision_events`), the names of
+//!   the threads at the first tick and their slices at the last (`put_all`: `first_events`; `put_rest`: `last_events`).
+//!   So are who has ended a thread's wait (`waker_of`, `put_waking`), what the begin and the end of a window write in
+//!   both forms (`open_window`, `close_window`), and what is before the events (`Sheet::put_head`: `events_head`).
 //!
 //! GTKWave opens the first (IEEE 1364-2005, section 18), Perfetto and chrome://tracing the second. Both go from change
-//! to change and keep of each thread what was shown of it last, so memory does not grow with the run. Below are the
-//! system (`ptk_system`), the configuration and the faults of writing (`ptk_main_runs`); the program's answers are
-//! above.
+//! to change and keep of each thread what was shown of it last, so memory does not grow with the run. Below is what is
+//! written of one change (`ptk_timeline_changes`), which passes on the system (`ptk_system`) and the faults of writing
+//! (`ptk_main_runs`), and the configuration; the program's answers are above.
 
 mod board;
-mod change;
-mod events;
 mod fault;
 mod run;
 mod sheet;
-mod shown;
-mod step;
 mod threads;
-mod vcd;
 mod view;
 
 pub use fault::FormatFault;

@@ -1,11 +1,10 @@
 //! What is written, up to a tick.
 
-use crate::change::Change;
-use crate::events::{put_event, put_events_head};
-use crate::vcd::{is_signal, put_values, put_vcd_head};
 use ptk_config::Config;
-use ptk_main_runs::PutFault;
 use ptk_symbols::Symbols;
+use ptk_timeline_changes::{
+    Change, PutFault, is_signal, put_event, put_events_head, put_values, put_vcd_head,
+};
 use ptk_words::PartId;
 use std::alloc::Global;
 use std::io::Write;
@@ -33,10 +32,11 @@ pub(crate) struct Sheet<'a, 's> {
 ghost use Rattle.std.specs.Prelude.{◌≡◌, ◌<◌, ◌≤◌, false, OnOk};
 ghost use Rattle.std.specs.Io.KnownBytes.{Appends};
 ghost use Rattle.ptk_words.specs.declared.TheConstants.{LAST_TICK};
+ghost use Rattle.ptk_timeline_changes.specs.Dumps.{dump_head};
+ghost use Rattle.ptk_timeline_changes.specs.Events.{change_events, events_head};
+ghost use Rattle.ptk_timeline_changes.specs.Signals.{is_signal};
 ghost use Rattle.ptk_timeline_formats.specs.declared.sheet.Form.TheVariants.{Vcd, Events};
-ghost use Rattle.ptk_timeline_formats.specs.Dumps.{dump_head};
-ghost use Rattle.ptk_timeline_formats.specs.Events.{change_events, changes_events, events_head, events_if};
-ghost use Rattle.ptk_timeline_formats.specs.Signals.{change_lines, changes_lines, is_signal, lines_if, text_behind_first, tick_behind, tick_behind_all, tick_behind_if, tick_line};
+ghost use Rattle.ptk_timeline_formats.specs.Changes.{change_lines, changes_events, changes_lines, events_if, lines_if, text_behind_first, tick_behind, tick_behind_all, tick_behind_if, tick_line};
 
 impl Form {
     /// What is between the first values and what changes.

@@ -3,19 +3,17 @@
 ghost use Rattle.std.specs.Prelude.{◌≡◌, ◌+◌, ◌<◌, ◌≤◌, None, All, IfOk, OnOk, if◌then◌else◌, length, min, take, vec_len};
 ghost use Rattle.std.specs.Io.KnownBytes.{Appends};
 ghost use Rattle.ptk_words.specs.declared.TheConstants.{LAST_TICK, THREAD_LIMIT};
-ghost use Rattle.ptk_main_runs.specs.Told.{pc_in};
-ghost use Rattle.ptk_main_runs.specs.World.{state_of};
+ghost use Rattle.ptk_timeline_changes.specs.Told.{pc_in};
+ghost use Rattle.ptk_timeline_changes.specs.World.{state_of};
+ghost use Rattle.ptk_timeline_changes.specs.Shown.{is_step_of, shown_in};
 ghost use Rattle.ptk_timeline_formats.specs.declared.sheet.Form.TheVariants.{Vcd, Events};
-ghost use Rattle.ptk_timeline_formats.specs.Events.{ends_by_itself, has_come, is_woken, shown_events, thread_events, threads_events, waker_of, waking_text};
-ghost use Rattle.ptk_timeline_formats.specs.Shown.{AreShown, is_step_of, shown_in};
-ghost use Rattle.ptk_timeline_formats.specs.Signals.{lines_at, shown_lines};
-ghost use Rattle.ptk_timeline_formats.specs.Texts.{thread_text, threads_behind, threads_text};
+ghost use Rattle.ptk_timeline_formats.specs.Changes.{lines_at};
+ghost use Rattle.ptk_timeline_formats.specs.Texts.{shown_lines, thread_text, threads_behind, threads_text};
+ghost use Rattle.ptk_timeline_formats.specs.Traces.{ends_by_itself, has_come, is_woken, shown_events, thread_events, threads_events, waker_of, waking_text};
+ghost use Rattle.ptk_timeline_formats.specs.Views.{AreShown};
 
-use crate::change::{Change, ShownSince};
 use crate::sheet::Sheet;
-use crate::shown::{Doing, Shown};
-use crate::step::Step;
-use ptk_main_runs::{PutFault, System};
+use ptk_timeline_changes::{Change, Doing, PutFault, Shown, ShownSince, Step, System};
 use ptk_words::{PartId, THREAD_LIMIT, ThreadNo, Tick, Wait};
 use std::alloc::{AllocError, Global};
 use std::io::Write;
@@ -129,7 +127,7 @@ fn show_thread<W: Write>(
 }
 
 /// Writes what is shown of a thread of which something else was shown.
-#[tactic(auto, unfolding(crate::specs::Events::shown_events))]
+#[tactic(auto, unfolding(crate::specs::Traces::shown_events))]
 fn put_shown<W: Write>(
     kept: &ShownSince,
     shown: &Shown,
@@ -161,7 +159,7 @@ fn put_shown<W: Write>(
 }
 
 /// Writes which thread's step has ended the wait of a thread, where one has. A dump has nothing of it.
-#[tactic(auto, unfolding(crate::specs::Events::waking_text))]
+#[tactic(auto, unfolding(crate::specs::Traces::waking_text))]
 fn put_waking<W: Write>(
     before: &Doing,
     after: &Doing,

@@ -3,20 +3,17 @@
 ghost use Rattle.std.specs.Prelude.{◌≡◌, ℕ, ◌+◌, ◌<◌, ◌≤◌, ⊤, List, [], None, Some, IfOk, IfSome, MatchBool, MatchOption, OnOk, length, min, vec_len};
 ghost use Rattle.std.specs.Io.KnownBytes.{Appends};
 ghost use Rattle.ptk_words.specs.declared.TheConstants.{LAST_TICK, THREAD_LIMIT};
-ghost use Rattle.ptk_main_runs.specs.World.{at_tick, but_next, state_of};
+ghost use Rattle.ptk_timeline_changes.specs.World.{at_tick, but_next, state_of};
+ghost use Rattle.ptk_timeline_changes.specs.Steps.{is_step_over, step_since, step_within, tick_behind_step};
 ghost use Rattle.ptk_timeline_formats.specs.declared.sheet.Form.TheVariants.{Vcd, Events};
 ghost use Rattle.ptk_timeline_formats.specs.Runs.{IsStretch, IsWindow};
-ghost use Rattle.ptk_timeline_formats.specs.Shown.{AreShown, kept_in, runner_shown, start_in, status_shown};
-ghost use Rattle.ptk_timeline_formats.specs.Steps.{is_step_over, step_since, step_within, tick_behind_step};
 ghost use Rattle.ptk_timeline_formats.specs.Texts.{first_text, part_behind, part_text};
 ghost use Rattle.ptk_timeline_formats.specs.Traces.{decision_events, first_events, last_events, lost_events, part_events};
+ghost use Rattle.ptk_timeline_formats.specs.Views.{AreShown, kept_in, runner_shown, start_in, status_shown};
 
-use crate::change::{Change, ShownSince};
 use crate::sheet::Sheet;
-use crate::shown::{Doing, Shown};
-use crate::step::Step;
 use crate::threads::{first_threads, show_threads};
-use ptk_main_runs::{PartStatus, PutFault, System};
+use ptk_timeline_changes::{Change, Doing, PartStatus, PutFault, Shown, ShownSince, Step, System};
 use ptk_words::{PartId, THREAD_LIMIT, ThreadNo, Tick};
 use std::alloc::{AllocError, Global};
 use std::io::Write;

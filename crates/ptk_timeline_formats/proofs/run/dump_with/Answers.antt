@@ -1,5 +1,5 @@
 use Rattle.std.proofs.Common.{◌≡◌, ◌∙◌, arith}
-use Rattle.ptk_main_runs.specs.World.{world_at}
+use Rattle.ptk_timeline_changes.specs.World.{world_at}
 use Rattle.ptk_timeline_formats.proofs.Wholes.{dump_by}
 use Rattle.ptk_timeline_formats.proofs.run.dump_with.Goals as goal
 

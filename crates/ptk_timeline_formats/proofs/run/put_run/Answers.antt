@@ -3,8 +3,8 @@ use Rattle.std.proofs.lemmas.Result.{on_ok_weaker}
 use Rattle.std.specs.Io.KnownBytes.{Appends}
 use Rattle.ptk_timeline_formats.specs.declared.board.Board.{Board}
 use Rattle.ptk_timeline_formats.specs.declared.sheet.Form.TheVariants.{Vcd}
+use Rattle.ptk_timeline_formats.specs.Changes.{text_behind_first}
 use Rattle.ptk_timeline_formats.specs.Runs.{Stand}
-use Rattle.ptk_timeline_formats.specs.Signals.{text_behind_first}
 use Rattle.ptk_timeline_formats.proofs.Wholes.{whole_dump}
 use Rattle.ptk_timeline_formats.proofs.run.put_run.Goals as goal
 

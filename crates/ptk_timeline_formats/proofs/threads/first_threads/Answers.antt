@@ -1,9 +1,9 @@
 use Rattle.std.proofs.Common.{◌≡◌, ℕ, ◌+◌, length, ◌∙◌, ap, arith}
 use Rattle.std.specs.Prelude.{None}
 use Rattle.ptk_words.proofs.Lists.{each_more}
-use Rattle.ptk_main_runs.specs.World.{state_of}
-use Rattle.ptk_timeline_formats.specs.declared.change.ShownSince.{ShownSince}
-use Rattle.ptk_timeline_formats.specs.Shown.{is_step_of, shown_in}
+use Rattle.ptk_timeline_changes.specs.World.{state_of}
+use Rattle.ptk_timeline_changes.specs.declared.change.ShownSince.{ShownSince}
+use Rattle.ptk_timeline_changes.specs.Shown.{is_step_of, shown_in}
 use Rattle.ptk_timeline_formats.proofs.Lists.{each_none}
 use Rattle.ptk_timeline_formats.proofs.threads.first_threads.Goals as goal
 

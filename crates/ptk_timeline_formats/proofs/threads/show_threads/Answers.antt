@@ -3,17 +3,17 @@ use Rattle.std.specs.Prelude.{if◌then◌else◌}
 use Rattle.std.specs.Io.KnownBytes.{Appends}
 use Rattle.std.proofs.KnownBytes.{Appends-nil}
 use Rattle.ptk_words.specs.declared.TheConstants.{THREAD_LIMIT}
-use Rattle.ptk_main_runs.specs.World.{state_of}
-use Rattle.ptk_timeline_formats.specs.declared.change.ShownSince.{ShownSince}
-use Rattle.ptk_timeline_formats.specs.contracts.shown.DoingPartialEq.TheImpl as doing_eq
-use Rattle.ptk_timeline_formats.specs.contracts.shown.ShownPartialEq.TheImpl as shown_eq
-use Rattle.ptk_timeline_formats.specs.Events.{numbered_events, threads_events}
-use Rattle.ptk_timeline_formats.specs.Shown.{is_step_of, shown_in}
+use Rattle.ptk_timeline_changes.specs.World.{state_of}
+use Rattle.ptk_timeline_changes.specs.declared.change.ShownSince.{ShownSince}
+use Rattle.ptk_timeline_changes.specs.contracts.shown.DoingPartialEq.TheImpl as doing_eq
+use Rattle.ptk_timeline_changes.specs.contracts.shown.ShownPartialEq.TheImpl as shown_eq
+use Rattle.ptk_timeline_changes.specs.Shown.{is_step_of, shown_in}
+use Rattle.ptk_timeline_changes.proofs.Written.{all_numbered, numbered_more}
 use Rattle.ptk_timeline_formats.specs.Texts.{thread_text}
+use Rattle.ptk_timeline_formats.specs.Traces.{numbered_events, threads_events}
 use Rattle.ptk_timeline_formats.proofs.Lists.{set_more}
 use Rattle.ptk_timeline_formats.proofs.Texts.{AreThreadTexts, no_thread, one_thread, all_reached, all_threads}
 use Rattle.ptk_timeline_formats.proofs.Traces.{thread_traced}
-use Rattle.ptk_timeline_formats.proofs.Written.{all_numbered, numbered_more}
 use Rattle.ptk_timeline_formats.proofs.threads.show_threads.Goals as goal
 
 pub loop-i-init : goal.loop-i-init

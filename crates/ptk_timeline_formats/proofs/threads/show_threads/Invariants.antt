@@ -2,13 +2,13 @@ use Rattle.std.proofs.Common.{◌≡◌, ℕ, ◌+◌, ◌<◌, ◌≤◌, flat_
 use Rattle.std.specs.List.{enumerate_from}
 use Rattle.std.specs.Io.KnownBytes.{Appends}
 use Rattle.ptk_words.specs.declared.TheConstants.{THREAD_LIMIT}
-use Rattle.ptk_main_runs.specs.World.{state_of}
-use Rattle.ptk_timeline_formats.specs.declared.change.ShownSince.{ShownSince}
+use Rattle.ptk_timeline_changes.specs.World.{state_of}
+use Rattle.ptk_timeline_changes.specs.declared.change.ShownSince.{ShownSince}
+use Rattle.ptk_timeline_changes.specs.contracts.shown.DoingPartialEq.TheImpl as doing_eq
+use Rattle.ptk_timeline_changes.specs.contracts.shown.ShownPartialEq.TheImpl as shown_eq
+use Rattle.ptk_timeline_changes.specs.Shown.{is_step_of, shown_in}
 use Rattle.ptk_timeline_formats.specs.declared.sheet.Form.TheVariants.{Vcd, Events}
-use Rattle.ptk_timeline_formats.specs.contracts.shown.DoingPartialEq.TheImpl as doing_eq
-use Rattle.ptk_timeline_formats.specs.contracts.shown.ShownPartialEq.TheImpl as shown_eq
-use Rattle.ptk_timeline_formats.specs.Events.{numbered_events}
-use Rattle.ptk_timeline_formats.specs.Shown.{is_step_of, shown_in}
+use Rattle.ptk_timeline_formats.specs.Traces.{numbered_events}
 use Rattle.ptk_timeline_formats.proofs.Texts.{AreThreadTexts}
 use Rattle.ptk_timeline_formats.proofs.threads.show_threads.Given as goal
 

@@ -3,9 +3,9 @@ use Rattle.std.specs.Prelude.{if◌then◌else◌}
 use Rattle.std.specs.Io.KnownBytes.{Appends}
 use Rattle.std.proofs.KnownBytes.{Appends-trans}
 use Rattle.std.proofs.lemmas.Result.{on_ok_weaker}
-use Rattle.ptk_timeline_formats.specs.declared.change.Change.TheVariants.{WindowBegins}
+use Rattle.ptk_timeline_changes.specs.declared.change.Change.TheVariants.{WindowBegins}
+use Rattle.ptk_timeline_formats.specs.Changes.{change_lines}
 use Rattle.ptk_timeline_formats.specs.Holders.{closing_events, closing_lines, is_open, tick_behind_closing}
-use Rattle.ptk_timeline_formats.specs.Signals.{change_lines}
 use Rattle.ptk_timeline_formats.proofs.board.Board.open_window.Goals as goal
 
 pub returns-clause-reached : goal.returns-clause-reached

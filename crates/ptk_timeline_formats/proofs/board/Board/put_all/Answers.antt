@@ -1,7 +1,7 @@
 use Rattle.std.proofs.Common.{◌≡◌, ◌∙◌, ◌<◌, ◌≤◌, length, get_or, take, refl, sym, arith, length-take, get_or-take}
 use Rattle.std.proofs.KnownBytes.{Appends-nil}
+use Rattle.ptk_timeline_changes.proofs.Each.{all_texts, one_text}
 use Rattle.ptk_timeline_formats.specs.Texts.{first_text}
-use Rattle.ptk_timeline_formats.proofs.Each.{all_texts, one_text}
 use Rattle.ptk_timeline_formats.proofs.board.Board.put_all.Goals as goal
 
 pub loop-i-init : goal.loop-i-init

@@ -1,7 +1,8 @@
 use Rattle.std.proofs.Common.{◌≡◌, ◌≤◌, length, take}
 use Rattle.std.specs.Io.KnownBytes.{Appends}
+use Rattle.ptk_timeline_changes.specs.Dumps.{each_text}
 use Rattle.ptk_timeline_formats.specs.declared.sheet.Form.TheVariants.{Vcd}
-use Rattle.ptk_timeline_formats.specs.Texts.{each_text, first_text}
+use Rattle.ptk_timeline_formats.specs.Texts.{first_text}
 use Rattle.ptk_timeline_formats.proofs.board.Board.put_all.Given as goal
 
 abbrev pub invariant-loop-i : goal.invariant-loop-i

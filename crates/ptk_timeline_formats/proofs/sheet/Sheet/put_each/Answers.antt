@@ -1,10 +1,9 @@
 use Rattle.std.proofs.Common.{◌≡◌, ◌∙◌, ◌+◌, ℕ, List, sym, subst, refl, arith}
 use Rattle.std.specs.Io.KnownBytes.{Appends}
 use Rattle.std.proofs.KnownBytes.{Appends-nil}
-use Rattle.ptk_timeline_formats.specs.Events.{events_if}
-use Rattle.ptk_timeline_formats.specs.Signals.{tick_behind_if}
+use Rattle.ptk_timeline_changes.proofs.Written.{all_written, written_more}
+use Rattle.ptk_timeline_formats.specs.Changes.{events_if, tick_behind_if}
 use Rattle.ptk_timeline_formats.proofs.Lines.{AreLines, all_lines, all_reached, no_lines, one_more}
-use Rattle.ptk_timeline_formats.proofs.Written.{all_written, written_more}
 use Rattle.ptk_timeline_formats.proofs.sheet.Sheet.put_each.Goals as goal
 
 pub loop-change-init : goal.loop-change-init

@@ -1,7 +1,7 @@
 use Rattle.std.proofs.Common.{◌≡◌, ◌≤◌, take}
 use Rattle.std.specs.Io.KnownBytes.{Appends}
 use Rattle.ptk_timeline_formats.specs.declared.sheet.Form.TheVariants.{Vcd, Events}
-use Rattle.ptk_timeline_formats.specs.Events.{changes_events}
+use Rattle.ptk_timeline_formats.specs.Changes.{changes_events}
 use Rattle.ptk_timeline_formats.proofs.Lines.{AreLines}
 use Rattle.ptk_timeline_formats.proofs.sheet.Sheet.put_each.Given as goal
 

@@ -4,12 +4,12 @@ use Rattle.std.specs.Option.{option_eq}
 use Rattle.std.specs.Io.KnownBytes.{Appends}
 use Rattle.std.proofs.KnownBytes.{Appends-trans}
 use Rattle.ptk_words.specs.contracts.numbers.ThreadNoPartialEq.TheImpl as number_eq
-use Rattle.ptk_main_runs.below.ptk_system.specs.contracts.status.PartStatusPartialEq.TheImpl as status_eq
-use Rattle.ptk_main_runs.specs.World.{state_of}
-use Rattle.ptk_timeline_formats.specs.declared.step.Step.{Step}
+use Rattle.ptk_timeline_changes.below.ptk_system.specs.contracts.status.PartStatusPartialEq.TheImpl as status_eq
+use Rattle.ptk_timeline_changes.specs.World.{state_of}
+use Rattle.ptk_timeline_changes.specs.declared.step.Step.{Step}
+use Rattle.ptk_timeline_changes.specs.contracts.shown.DoingPartialEq.TheImpl as doing_eq
+use Rattle.ptk_timeline_changes.specs.contracts.shown.ShownPartialEq.TheImpl as shown_eq
 use Rattle.ptk_timeline_formats.specs.declared.view.PartView.{PartView}
-use Rattle.ptk_timeline_formats.specs.contracts.shown.DoingPartialEq.TheImpl as doing_eq
-use Rattle.ptk_timeline_formats.specs.contracts.shown.ShownPartialEq.TheImpl as shown_eq
 use Rattle.ptk_timeline_formats.specs.Texts.{part_behind, part_text}
 use Rattle.ptk_timeline_formats.specs.Traces.{decision_events, lost_events, part_events}
 use Rattle.ptk_timeline_formats.proofs.Traces.{lost_kept}

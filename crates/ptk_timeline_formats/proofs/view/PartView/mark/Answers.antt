@@ -1,8 +1,8 @@
 use Rattle.std.proofs.Common.{[], ◌∷◌, ◌∙◌, subst}
 use Rattle.std.proofs.lemmas.Result.{IfOk-weaker, on_ok_weaker}
 use Rattle.std.specs.Io.KnownBytes.{Appends}
-use Rattle.ptk_main_runs.specs.World.{state_of}
-use Rattle.ptk_timeline_formats.specs.Signals.{changes_lines}
+use Rattle.ptk_timeline_changes.specs.World.{state_of}
+use Rattle.ptk_timeline_formats.specs.Changes.{changes_lines}
 use Rattle.ptk_timeline_formats.proofs.Lines.{no_lost_lines}
 use Rattle.ptk_timeline_formats.proofs.Reached.{lost_reached}
 use Rattle.ptk_timeline_formats.proofs.Traces.{lost_traced}

@@ -3,15 +3,16 @@ use Rattle.std.specs.List.{concat}
 use Rattle.std.specs.Io.KnownBytes.{Appends}
 use Rattle.std.proofs.KnownBytes.{Appends-nil, Appends-trans}
 use Rattle.ptk_words.specs.declared.TheConstants.{THREAD_LIMIT}
-use Rattle.ptk_main_runs.specs.World.{state_of}
+use Rattle.ptk_timeline_changes.specs.World.{state_of}
+use Rattle.ptk_timeline_changes.specs.declared.change.Change.TheVariants.{WindowEnds, Status, Runner}
+use Rattle.ptk_timeline_changes.specs.Signals.{SIGNALS, bit_line, number_or_none, priority_line, state_line, status_number, vector_line}
+use Rattle.ptk_timeline_changes.proofs.Written.{all_numbered, numbered_more}
 use Rattle.ptk_timeline_formats.specs.declared.sheet.Form.TheVariants.{Vcd}
-use Rattle.ptk_timeline_formats.specs.declared.change.Change.TheVariants.{WindowEnds, Status, Runner}
-use Rattle.ptk_timeline_formats.specs.Signals.{SIGNALS, bit_line, changes_lines, lines_at, number_or_none, priority_line, state_line, status_number, vector_line}
+use Rattle.ptk_timeline_formats.specs.Changes.{changes_lines, lines_at}
 use Rattle.ptk_timeline_formats.specs.Texts.{values_text}
 use Rattle.ptk_timeline_formats.specs.Traces.{numbered_start}
 use Rattle.ptk_timeline_formats.proofs.Values.{no_values, more_values, all_values, lines_there, part_values}
 use Rattle.ptk_timeline_formats.proofs.Traces.{first_traced, start_traced}
-use Rattle.ptk_timeline_formats.proofs.Written.{all_numbered, numbered_more}
 use Rattle.ptk_timeline_formats.proofs.view.PartView.put_all.Goals as goal
 
 pub loop-i-init : goal.loop-i-init

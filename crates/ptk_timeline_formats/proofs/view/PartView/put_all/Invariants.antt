@@ -2,7 +2,7 @@ use Rattle.std.proofs.Common.{◌≡◌, ◌≤◌, flat_map, take}
 use Rattle.std.specs.List.{enumerate_from}
 use Rattle.std.specs.Io.KnownBytes.{Appends}
 use Rattle.ptk_words.specs.declared.TheConstants.{THREAD_LIMIT}
-use Rattle.ptk_main_runs.specs.World.{state_of}
+use Rattle.ptk_timeline_changes.specs.World.{state_of}
 use Rattle.ptk_timeline_formats.specs.declared.sheet.Form.TheVariants.{Vcd, Events}
 use Rattle.ptk_timeline_formats.specs.Traces.{numbered_start}
 use Rattle.ptk_timeline_formats.proofs.Values.{AreValues}

@@ -2,8 +2,8 @@ use Rattle.std.proofs.Common.{◌≡◌, ℕ, ◌+◌, ◌<◌, ◌≤◌, lengt
 use Rattle.std.specs.Io.KnownBytes.{Appends}
 use Rattle.std.proofs.KnownBytes.{Appends-nil}
 use Rattle.ptk_words.specs.declared.TheConstants.{THREAD_LIMIT}
+use Rattle.ptk_timeline_changes.proofs.Written.{all_numbered, numbered_more}
 use Rattle.ptk_timeline_formats.specs.Traces.{last_events, numbered_slice}
-use Rattle.ptk_timeline_formats.proofs.Written.{all_numbered, numbered_more}
 use Rattle.ptk_timeline_formats.proofs.view.PartView.put_rest.Goals as goal
 
 pub loop-i-init : goal.loop-i-init

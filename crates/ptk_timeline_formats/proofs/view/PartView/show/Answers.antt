@@ -6,16 +6,16 @@ use Rattle.std.proofs.lemmas.Result.{IfOk-weaker, on_ok_weaker}
 use Rattle.std.specs.Io.KnownBytes.{Appends}
 use Rattle.ptk_words.specs.declared.TheConstants.{THREAD_LIMIT}
 use Rattle.ptk_words.specs.contracts.numbers.ThreadNoPartialEq.TheImpl as number_eq
-use Rattle.ptk_main_runs.below.ptk_system.specs.contracts.status.PartStatusPartialEq.TheImpl as status_eq
-use Rattle.ptk_main_runs.specs.World.{state_of}
-use Rattle.ptk_timeline_formats.specs.declared.change.ShownSince.{ShownSince}
-use Rattle.ptk_timeline_formats.specs.declared.change.Change.TheVariants.{Status, Runner}
-use Rattle.ptk_timeline_formats.specs.contracts.shown.DoingPartialEq.TheImpl as doing_eq
-use Rattle.ptk_timeline_formats.specs.contracts.shown.ShownPartialEq.TheImpl as shown_eq
-use Rattle.ptk_timeline_formats.specs.Events.{threads_events}
-use Rattle.ptk_timeline_formats.specs.Shown.{is_step_of, runner_shown, shown_in, status_shown}
+use Rattle.ptk_timeline_changes.below.ptk_system.specs.contracts.status.PartStatusPartialEq.TheImpl as status_eq
+use Rattle.ptk_timeline_changes.specs.World.{state_of}
+use Rattle.ptk_timeline_changes.specs.declared.change.ShownSince.{ShownSince}
+use Rattle.ptk_timeline_changes.specs.declared.change.Change.TheVariants.{Status, Runner}
+use Rattle.ptk_timeline_changes.specs.contracts.shown.DoingPartialEq.TheImpl as doing_eq
+use Rattle.ptk_timeline_changes.specs.contracts.shown.ShownPartialEq.TheImpl as shown_eq
+use Rattle.ptk_timeline_changes.specs.Shown.{is_step_of, shown_in}
 use Rattle.ptk_timeline_formats.specs.Texts.{part_text, threads_behind, threads_text}
-use Rattle.ptk_timeline_formats.specs.Traces.{part_events}
+use Rattle.ptk_timeline_formats.specs.Traces.{part_events, threads_events}
+use Rattle.ptk_timeline_formats.specs.Views.{runner_shown, status_shown}
 use Rattle.ptk_timeline_formats.proofs.Texts.{change_if_other, part_written}
 use Rattle.ptk_timeline_formats.proofs.Reached.{part_reached}
 use Rattle.ptk_timeline_formats.proofs.Traces.{part_traced}

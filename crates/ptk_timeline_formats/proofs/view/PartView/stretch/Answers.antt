@@ -2,12 +2,12 @@ use Rattle.std.proofs.Common.{◌≡◌, ◌∙◌, ◌<◌, ◌+◌, ◌++◌, 
 use Rattle.std.specs.Option.{option_eq}
 use Rattle.std.proofs.KnownBytes.{Appends-trans}
 use Rattle.ptk_words.specs.contracts.numbers.ThreadNoPartialEq.TheImpl as number_eq
-use Rattle.ptk_main_runs.below.ptk_system.specs.contracts.status.PartStatusPartialEq.TheImpl as status_eq
-use Rattle.ptk_main_runs.specs.World.{World, at_tick, state_of}
+use Rattle.ptk_timeline_changes.below.ptk_system.specs.contracts.status.PartStatusPartialEq.TheImpl as status_eq
+use Rattle.ptk_timeline_changes.specs.World.{World, at_tick, state_of}
+use Rattle.ptk_timeline_changes.specs.contracts.shown.ShownPartialEq.TheImpl as shown_eq
+use Rattle.ptk_timeline_changes.specs.Steps.{is_step_over, step_since, step_within, tick_behind_step}
 use Rattle.ptk_timeline_formats.specs.declared.sheet.Form.TheVariants.{Vcd}
 use Rattle.ptk_timeline_formats.specs.declared.sheet.Sheet.{Sheet}
-use Rattle.ptk_timeline_formats.specs.contracts.shown.ShownPartialEq.TheImpl as shown_eq
-use Rattle.ptk_timeline_formats.specs.Steps.{is_step_over, step_since, step_within, tick_behind_step}
 use Rattle.ptk_timeline_formats.specs.Texts.{part_text}
 use Rattle.ptk_timeline_formats.proofs.Stretches.{end_shown, step_shown}
 use Rattle.ptk_timeline_formats.proofs.view.PartView.stretch.Goals as goal

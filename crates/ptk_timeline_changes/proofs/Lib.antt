@@ -1,0 +1,4 @@
+pub mod Written
+pub mod Instants
+pub mod JsonNames
+pub mod Each

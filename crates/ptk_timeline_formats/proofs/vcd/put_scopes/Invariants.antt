@@ -1,8 +1,0 @@
-use Rattle.std.proofs.Common.{take}
-use Rattle.std.specs.Io.KnownBytes.{Appends}
-use Rattle.ptk_timeline_formats.specs.Dumps.{part_scope}
-use Rattle.ptk_timeline_formats.specs.Texts.{each_text}
-use Rattle.ptk_timeline_formats.proofs.vcd.put_scopes.Given as goal
-
-abbrev pub invariant-loop-place : goal.invariant-loop-place
-invariant-loop-place g l = Appends (g.W.Write.contents l.initial.out) (g.W.Write.contents l.out) (each_text part_scope 0 (take l.place l.sections))
