@@ -5,13 +5,10 @@ use Rattle.std.specs.Option.{option_eq}
 use Rattle.ptk_words.specs.Names.{ThreadNumber}
 use Rattle.ptk_words.specs.contracts.numbers.ThreadNoPartialEq.TheImpl as number_eq
 use Rattle.ptk_words.specs.declared.TheConstants.{THREAD_LIMIT}
-use Rattle.ptk_words.specs.declared.sections.Entry.{Entry}
 use Rattle.ptk_words_windows.specs.Windows.{IsFirstOwn, IsOwn, IsOwnUntil, WindowPlan}
-use Rattle.ptk_words_model.specs.Priority.{effective_priority}
 use Rattle.ptk_words_model.specs.State.{Part, State}
 use Rattle.ptk_config.specs.Configuration.{Configuration}
-use Rattle.ptk_timeline_changes.specs.Activities.{activity_in}
-use Rattle.ptk_timeline_changes.specs.Activity.TheVariants.{Running}
+use Rattle.ptk_timeline_changes.specs.Going.{GoesOnAsIs}
 use Rattle.ptk_timeline_changes.specs.PartStatus.{PartStatus}
 use Rattle.ptk_timeline_changes.specs.World.{World, at_tick, but_next, section_at, state_of}
 use Rattle.ptk_timeline_changes.below.ptk_system.specs.contracts.status.PartStatusPartialEq.TheImpl as status_eq
@@ -77,13 +74,6 @@ IsEndShown p tick s at reached before after lines is_over =
 
 -- ---- a window
 
--- from the system's tick on and up to another each thread of the partition does what it did, with the same effective priority, and each step is of the thread that ran then (own)
-pub record IsSteady (world : World) (p to : ℕ) : Type 0 where
-  pub does : (k t : ℕ) → world.tick ≤ k → k ≤ to → activity_in t (state_of (at_tick k world) p).part ≡ activity_in t (state_of world p).part
-  pub priority : (k t : ℕ) → world.tick ≤ k → k ≤ to → effective_priority (state_of (at_tick k world) p).part.locks t ≡ effective_priority (state_of world p).part.locks t
-  pub steps : (k : ℕ) → world.tick ≤ k → k < to → (state_of (at_tick k world) p).account.steps < (state_of (at_tick (k + 1) world) p).account.steps
-      → (entry : Entry) → (state_of (at_tick (k + 1) world) p).part.last ≡ Some entry → activity_in entry.thread (state_of world p).part ≡ Running
-
 -- how far a dump has come in a window: the system, the next tick at which something of the partition can change, the tick of the dump's last line, and what is shown
 pub record Scene : Type 0 where
   pub world : World
@@ -106,7 +96,7 @@ pub record IsStretch (p end : ℕ) (before after : Scene) (lines : List ℕ) : T
   pub decision : IsLook p (step_since before.view.steps before.due end (state_of first p)) (state_of first p).part before.due before.at decided_at before.view decided of_decision
   pub kept : decided ≡ kept_in (step_since before.view.steps before.due end (state_of first p)) (state_of first p) decided
   pub goes_on : after.world ≡ at_tick after.world.tick first
-  pub steady : IsSteady first p after.world.tick
+  pub steady : GoesOnAsIs first p after.world.tick
   pub step : IsStepShown p (tick_behind_step before.due decided.step) (state_of after.world p) decided_at stepped_at decided stepped of_step
       (step_within decided.steps (tick_behind_step before.due decided.step) end (state_of after.world p))
   pub over : IsEndShown p (tick_behind_step after.due stepped.step) (state_of after.world p).part stepped_at after.at stepped after.view of_end (is_step_over after.due end stepped.step)

@@ -55,9 +55,7 @@ returns-clause-dump g c = λ vcd.
         decision = record { written = refl; last = c.in_ok-decide.ensures.reached vcd; threads = c.in_ok-decide.ensures.shown; count = c.decide.ensures.count };
         kept = c.in_ok-decide.ensures.kept;
         goes_on = c.compute_to.ensures.run;
-        steady = (
-            let on = c.compute_to.ensures.steady p within in
-            record { does = λ k t from to. (on.threads k from to).activities t; priority = λ k t from to. (on.threads k from to).effective t; steps = on.steps });
+        steady = c.compute_to.ensures.steady p within;
         step = step.2;
         over = end.2;
         still = λ k after behind to. c.due_behind-next.ensures.still k after (omega (arith, c.in_ok-begin.ensures.behind)) to;
