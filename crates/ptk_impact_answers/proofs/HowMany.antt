@@ -9,10 +9,11 @@ use Rattle.ptk_impact.specs.World.{section_at}
 use Rattle.ptk_impact.specs.declared.impact.Impact.{Impact}
 use Rattle.ptk_impact.specs.declared.impact.Impact.TheVariants.{Unchanged, UnchangedButForTrace, Changed}
 use Rattle.ptk_impact.specs.declared.subject.Subject.{Subject}
+use Rattle.ptk_main_runs.specs.Parts.{is_asked}
 use Rattle.ptk_impact_answers.specs.declared.release.Release.{Release}
 use Rattle.ptk_impact_answers.specs.declared.tally.Tally.{Tally}
 use Rattle.ptk_impact_answers.specs.Counts.{counted, no_counts, one_more, with_added, with_removed}
-use Rattle.ptk_impact_answers.specs.Matching.{Renamed, is_asked, place_after, place_before}
+use Rattle.ptk_impact_answers.specs.Matching.{Renamed, place_after, place_before}
 use Rattle.ptk_impact_answers.specs.SameRuns.{subject_at}
 use Rattle.ptk_impact_answers.specs.Tallies.{AreCounts, CountsGone, CountsMatched, CountsNew, HasOtherTrace, HowMany, InTurn, IsNoneNow, IsSeenOtherwise, WasNone, WasOne}
 use Rattle.ptk_impact_answers.proofs.Counting.{alike_but_trace}

@@ -3,10 +3,11 @@ use Rattle.std.proofs.Common.{◌≡◌, ◌∙◌, ℕ, ◌&&◌, Bool, true, f
 use Rattle.std.specs.Prelude.{is_none}
 use Rattle.std.specs.Borrow.{Bor}
 use Rattle.ptk_impact.specs.World.{section_at}
+use Rattle.ptk_main_runs.specs.Parts.{is_asked}
 use Rattle.ptk_impact_answers.specs.declared.form.Form.{Form}
 use Rattle.ptk_impact_answers.specs.declared.release.Release.{Release}
 use Rattle.ptk_impact_answers.specs.Counts.{with_added, with_removed}
-use Rattle.ptk_impact_answers.specs.Matching.{Renamed, is_asked, place_after, place_before}
+use Rattle.ptk_impact_answers.specs.Matching.{Renamed, place_after, place_before}
 use Rattle.ptk_impact_answers.specs.Written.{PutsAlone, PutsBoth, PutsGone, PutsMatched, PutsNew, SoFar}
 
 -- ---- a new partition, by its name and whether it is asked for

@@ -1,14 +1,8 @@
 -- Which partition of the old configuration one of the new configuration was, and the other way round.
-use Rattle.std.specs.Prelude.{ℕ, Bool, true, List, Option, Some, None, if◌then◌else◌, is_some, option_and_then, option_map, position, slice_get}
-use Rattle.std.specs.Borrow.{Bor}
+use Rattle.std.specs.Prelude.{ℕ, List, Option, Some, None, if◌then◌else◌, is_some, option_and_then, option_map, position, slice_get}
 use Rattle.std.specs.Str.{bytes_eq}
 use Rattle.ptk_config.specs.Configuration.{Configuration}
 use Rattle.ptk_main_runs.specs.Parts.{part_named}
-
--- the partition of this name is asked for: all are where none is named (own)
-abbrev pub is_asked : Option (Bor (List ℕ)) → List ℕ → Bool
-is_asked None name = true
-is_asked (Some asked) name = bytes_eq asked.now name
 
 -- a partition that has another name (own)
 pub record Renamed : Type 0 where

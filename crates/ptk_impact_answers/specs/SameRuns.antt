@@ -4,8 +4,9 @@ use Rattle.std.specs.Borrow.{Bor}
 use Rattle.ptk_impact.specs.World.{section_at}
 use Rattle.ptk_impact.specs.declared.subject.Subject.{Subject}
 use Rattle.ptk_impact.specs.Views.{SeenAlikeButTrace}
+use Rattle.ptk_main_runs.specs.Parts.{is_asked}
 use Rattle.ptk_impact_answers.specs.declared.release.Release.{Release}
-use Rattle.ptk_impact_answers.specs.Matching.{Renamed, is_asked, place_after, place_before}
+use Rattle.ptk_impact_answers.specs.Matching.{Renamed, place_after, place_before}
 
 -- the partition at a place of a configuration with its files (own)
 abbrev pub subject_at : Release → ℕ → Subject

@@ -6,6 +6,7 @@ use Rattle.std.specs.Io.KnownBytes.{Appends}
 use Rattle.ptk_words.specs.Names.{newline}
 use Rattle.ptk_impact.specs.Impact.{IsImpact}
 use Rattle.ptk_impact.specs.World.{section_at}
+use Rattle.ptk_main_runs.specs.Parts.{is_asked}
 use Rattle.ptk_impact_answers.specs.declared.comparison.Comparison.{Comparison}
 use Rattle.ptk_impact_answers.specs.declared.form.Form.{Form}
 use Rattle.ptk_impact_answers.specs.declared.form.Form.TheVariants.{Lines, Json}
@@ -15,7 +16,7 @@ use Rattle.ptk_impact_answers.specs.Comparisons.{refusal_if_changed}
 use Rattle.ptk_impact_answers.specs.Counts.{counted, no_counts, with_added, with_removed}
 use Rattle.ptk_impact_answers.specs.Documents.{IsAlone, IsCompared, PutsObject, beginning_text, counts_text}
 use Rattle.ptk_impact_answers.specs.Lines.{answer_line, comparison_lines, counts_words}
-use Rattle.ptk_impact_answers.specs.Matching.{Renamed, is_asked, place_after, place_before}
+use Rattle.ptk_impact_answers.specs.Matching.{Renamed, place_after, place_before}
 use Rattle.ptk_impact_answers.specs.SameRuns.{subject_at}
 use Rattle.ptk_impact_answers.specs.Tallies.{InTurn}
 

@@ -5,9 +5,10 @@ ghost use Rattle.std.specs.Option.{option_copied};
 ghost use Rattle.ptk_impact.specs.Impact.{IsImpact};
 ghost use Rattle.ptk_impact.specs.World.{section_at};
 ghost use Rattle.ptk_main_faults.specs.Told.{told};
+ghost use Rattle.ptk_main_runs.specs.Parts.{is_asked};
 ghost use Rattle.ptk_impact_answers.specs.Comparisons.{refusal_if_changed};
 ghost use Rattle.ptk_impact_answers.specs.Counts.{IsClear};
-ghost use Rattle.ptk_impact_answers.specs.Matching.{is_asked, place_after, place_before};
+ghost use Rattle.ptk_impact_answers.specs.Matching.{place_after, place_before};
 ghost use Rattle.ptk_impact_answers.specs.Refusals.{refusal, unknown_asked, unknown_in, unknown_name, unknown_renamed};
 ghost use Rattle.ptk_impact_answers.specs.Renaming.{renames_of};
 ghost use Rattle.ptk_impact_answers.specs.SameRuns.{AreSameRuns, AreSeenAlike, AreStillThere, IsStillThereIfAsked, WasSeenAlikeIfAsked, WereSeenAlike, subject_at};
@@ -41,7 +42,7 @@ impl<'a> Question<'a> {
         ensures { result ≡ is_asked self.now.partition name.now }
     {
         match self.partition {
-            Some(asked) => asked == name,
+            Some(asked) => name == asked,
             None => true,
         }
     }

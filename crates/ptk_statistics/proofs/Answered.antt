@@ -14,7 +14,7 @@ use Rattle.ptk_statistics_run.specs.Told.{status_in}
 use Rattle.ptk_statistics_run.specs.World.{World, section_at, state_of}
 use Rattle.ptk_statistics_run.specs.declared.part.PartStatistics.{PartStatistics}
 use Rattle.ptk_statistics_run.specs.declared.statistics.Statistics.{Statistics}
-use Rattle.ptk_statistics.specs.Asked.{is_asked}
+use Rattle.ptk_statistics_run.specs.PartNames.{is_asked}
 use Rattle.ptk_statistics.specs.Document.{IsObject}
 use Rattle.ptk_statistics_run.specs.Parts.{AgreesWith}
 use Rattle.ptk_statistics.specs.Answered.{AreTextsOf, IsObjectAt, PutsAsked, PutsDocument, PutsRun, beginning_text, comma_before, document_text, end_text, joined}

@@ -31,7 +31,7 @@ use Rattle.ptk_statistics.specs.declared.words.TheConstants.{KINDS}
 use Rattle.ptk_statistics.specs.declared.blocks.Clock.{Clock}
 use Rattle.ptk_statistics_run.specs.declared.part.PartStatistics.{PartStatistics}
 use Rattle.ptk_statistics_run.specs.declared.statistics.Statistics.{Statistics}
-use Rattle.ptk_statistics.specs.Asked.{is_asked}
+use Rattle.ptk_statistics_run.specs.PartNames.{is_asked}
 use Rattle.ptk_statistics_run.specs.Parts.{AgreesWith}
 use Rattle.ptk_statistics.specs.Words.{word_of_doing, word_of_outcome}
 use Rattle.ptk_statistics.specs.Tables.{AreCounted, PutsBlocks, PutsIfCounted, PutsTables, activation_row, activation_rows, activations_table, asked_block, at_left, at_right, block_text, blocks_text, call_row, call_rows, calls_table, counted_header, counted_row, counted_table, counted_thread, eight_digits, figure, first_cell, first_number, kind_cell, longest_rows, mutex_rows, mutexes_table, name_line, number_cell, numbered, row_text, spans_table, stack_cell, thread_activations, thread_row, thread_rows, threads_header, threads_table, ticks_by, ticks_row, word_cell, word_of_clock}

@@ -31,7 +31,7 @@ use Rattle.ptk_statistics.specs.declared.blocks.Clock.{Clock}
 use Rattle.ptk_statistics.specs.declared.blocks.Clock.TheVariants.{Own, Wall}
 use Rattle.ptk_statistics_run.specs.declared.part.PartStatistics.{PartStatistics}
 use Rattle.ptk_statistics_run.specs.declared.statistics.Statistics.{Statistics}
-use Rattle.ptk_statistics.specs.Asked.{is_asked}
+use Rattle.ptk_statistics_run.specs.PartNames.{is_asked}
 use Rattle.ptk_statistics_run.specs.Parts.{AgreesWith}
 use Rattle.ptk_statistics.specs.Words.{word_of_doing, word_of_outcome}
 
