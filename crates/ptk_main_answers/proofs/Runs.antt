@@ -4,13 +4,13 @@ use Rattle.std.specs.Prelude.{◌⊎◌, IfErr, IsErrAnd, IsTrue}
 use Rattle.ptk_config.specs.Configuration.{Configuration}
 use Rattle.ptk_image.specs.NamedFiles.{NamedFile}
 use Rattle.std.specs.Borrow.{Bor}
+use Rattle.ptk_main_faults.specs.HostFaults.{IsHostFault}
 use Rattle.ptk_main_faults.specs.declared.fault.Fault.{Fault}
 use Rattle.ptk_main_faults.specs.declared.fault.Fault.TheVariants.{FailedOn}
 use Rattle.ptk_main_faults.specs.declared.fault.FailureKind.{FailureKind}
 use Rattle.ptk_main_faults.specs.Told.{text}
 use Rattle.ptk_main_runs.specs.World.{World, at_tick, world_at}
 use Rattle.ptk_main_answers.specs.Expectations.{AreHalted, IsFailed, IsFailedOn, IsFailure, IsNoFailure, IsPassed, IsReported, IsUnlike}
-use Rattle.ptk_main_answers.specs.HostFaults.{IsHostFault}
 use Rattle.ptk_main_answers.specs.Images.{part_name}
 use Rattle.ptk_main_answers.specs.declared.run.RunQuestion.{RunQuestion}
 

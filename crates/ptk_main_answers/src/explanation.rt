@@ -1,8 +1,9 @@
 //! The explanation of a configuration's text, in words.
 
-ghost use Rattle.std.specs.Prelude.{◌≡◌, ◌≢◌, ◌⊎◌, IfErr, IfOk};
+ghost use Rattle.std.specs.Prelude.{◌≡◌, ◌≢◌, IfErr, IfOk};
 ghost use Rattle.ptk_config_explain.specs.Explained.{IsExplained};
 ghost use Rattle.ptk_config_places.specs.Refusals.{refusal_of, text_walk};
+ghost use Rattle.ptk_main_faults.specs.HostFaults.{IsHostFault};
 
 use ptk_config_explain::{ExplainFault, explain};
 use ptk_config_places::Refusal;
@@ -24,7 +25,7 @@ pub fn explain_with<W: Write>(
 ) -> Result<Option<Refusal>, Fault<'static>>
     ensures place { IfOk result (λ found. found ≡ refusal_of (text_walk text.now)) }
     ensures written { IfOk result (λ found. IsExplained files.now text.now found (W.contents out.old) (W.contents out.new)) }
-    ensures failed { IfErr result (λ fault. (fault ≡ Fault.NoMemory) ⊎ (fault ≡ Fault.WriteFailed)) }
+    ensures failed { IfErr result IsHostFault }
     ensures silent { IfErr result (λ fault. fault ≢ Fault.WriteFailed → out.new ≡ out.old) }
 {
     match explain(alloc, text, files, out) {

@@ -3,9 +3,9 @@
 ghost use Rattle.std.specs.Prelude.{◌≡◌, ◌≤◌, ◌<◌, ◌⊎◌, ℕ, List, None, IfErr, IfSome, OnOk, MatchResult, IsTrue, false};
 ghost use Rattle.std.specs.Io.KnownBytes.{Appends};
 ghost use Rattle.ptk_words.specs.declared.TheConstants.{LAST_TICK};
+ghost use Rattle.ptk_main_faults.specs.HostFaults.{IsHostFault};
 ghost use Rattle.ptk_main_runs.specs.World.{at_tick, world_at};
 ghost use Rattle.ptk_main_answers.specs.Expectations.{AreHalted, IsFailed, IsNoFailure, IsPassed, IsReported, IsUnlike, report_in};
-ghost use Rattle.ptk_main_answers.specs.HostFaults.{IsHostFault};
 ghost use Rattle.ptk_main_answers.specs.Refusals.{IsFaultOf, missing_image};
 ghost use Rattle.ptk_main_answers.specs.Watching.{HasWatched};
 

@@ -6,7 +6,7 @@ ghost use Rattle.json.specs.Lex.{tokens};
 ghost use Rattle.json.specs.Print.{print};
 ghost use Rattle.serde.specs.Event.{Log};
 ghost use Rattle.serde_json.specs.Sent.{IsTextOf};
-ghost use Rattle.ptk_main_answers.specs.HostFaults.{IsHostFault};
+ghost use Rattle.ptk_main_faults.specs.HostFaults.{IsHostFault};
 
 use ptk_main_faults::Fault;
 use serde::Serialize;

@@ -1,3 +1,4 @@
+pub mod HostFaults
 pub mod Lines
 pub mod Statuses
 pub mod Told

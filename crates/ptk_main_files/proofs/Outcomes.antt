@@ -10,6 +10,7 @@ use Rattle.ptk_main_line.specs.declared.requests.Format.TheVariants as form
 use Rattle.ptk_main_line.specs.declared.requests.ImpactOptions.{ImpactOptions}
 use Rattle.ptk_main_line.specs.declared.requests.RunOptions.{RunOptions}
 use Rattle.ptk_main_line.specs.declared.requests.TraceOptions.{TraceOptions}
+use Rattle.ptk_main_faults.specs.HostFaults.{IsHostFault}
 use Rattle.ptk_main_faults.specs.Lines.{status_of}
 use Rattle.ptk_main_faults.specs.Statuses.{status_number}
 use Rattle.ptk_main_faults.specs.Told.{told}
@@ -21,7 +22,6 @@ use Rattle.ptk_main_tools.specs.NamedFiles.{NamedFile}
 use Rattle.ptk_main_tools.specs.Reading.{AreImagesOf, IsConfigFault}
 use Rattle.ptk_main_answers.specs.World.{World, world_at}
 use Rattle.ptk_main_answers.specs.Expectations.{IsFailed, IsFirstDifference, IsPassed, IsReport}
-use Rattle.ptk_main_answers.specs.HostFaults.{IsHostFault}
 use Rattle.ptk_main_answers.specs.Refusals.{IsFaultOf, missing_image}
 use Rattle.ptk_main_answers.specs.declared.run.RunQuestion.{RunQuestion}
 use Rattle.ptk_impact_answers.specs.Counts.{IsClear}

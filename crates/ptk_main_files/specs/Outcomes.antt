@@ -12,6 +12,7 @@ use Rattle.ptk_main_line.specs.declared.requests.Format.TheVariants as form
 use Rattle.ptk_main_line.specs.declared.requests.ImpactOptions.{ImpactOptions}
 use Rattle.ptk_main_line.specs.declared.requests.RunOptions.{RunOptions}
 use Rattle.ptk_main_line.specs.declared.requests.TraceOptions.{TraceOptions}
+use Rattle.ptk_main_faults.specs.HostFaults.{IsHostFault}
 use Rattle.ptk_main_faults.specs.Lines.{status_of}
 use Rattle.ptk_main_faults.specs.Told.{text, told}
 use Rattle.ptk_main_faults.specs.declared.fault.Fault.{Fault}
@@ -23,7 +24,6 @@ use Rattle.ptk_main_answers.specs.World.{world_at}
 use Rattle.ptk_main_answers.specs.Answers.{ok_line, trace_of}
 use Rattle.ptk_main_answers.specs.Documents.{check_text}
 use Rattle.ptk_main_answers.specs.Expectations.{IsFailed, IsPassed}
-use Rattle.ptk_main_answers.specs.HostFaults.{IsHostFault}
 use Rattle.ptk_main_answers.specs.Parts.{part_named}
 use Rattle.ptk_main_answers.specs.Refusals.{IsFaultOf, missing_image, refused_image, refused_trace}
 use Rattle.ptk_main_answers.specs.declared.run.RunQuestion.{RunQuestion}

@@ -1,9 +1,9 @@
 //! `check`: whether a configuration and the images that it names are in order.
 
 ghost use Rattle.std.specs.Prelude.{◌≡◌, ◌⊎◌, [], Some, None, IfErr, IfOk, OnOk, string_bytes};
+ghost use Rattle.ptk_main_faults.specs.HostFaults.{IsHostFault};
 ghost use Rattle.ptk_main_faults.specs.Lines.{line_of};
 ghost use Rattle.ptk_main_faults.specs.declared.fault.Fault.TheVariants.{NoMemory};
-ghost use Rattle.ptk_main_answers.specs.HostFaults.{IsHostFault};
 ghost use Rattle.ptk_main_answers.specs.Refusals.{IsFaultOf, missing_image};
 ghost use Rattle.ptk_main_files.specs.Outcomes.{IsCheckFault, IsExplanation, IsNoExplanation, IsSound, IsUnsaid, PutsCheck, PutsObject, check_refusal};
 ghost use Rattle.ptk_main_files.specs.Statuses.{IsCheckEnd, IsCheckStatus};

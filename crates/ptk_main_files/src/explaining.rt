@@ -1,9 +1,9 @@
 //! The explanation of a configuration, among it where and why it is refused.
 
 ghost use Rattle.std.specs.Prelude.{◌≡◌, ◌≢◌, IfErr, OnOk};
+ghost use Rattle.ptk_main_faults.specs.HostFaults.{IsHostFault};
 ghost use Rattle.ptk_main_faults.specs.Lines.{status_of};
 ghost use Rattle.ptk_main_faults.specs.Statuses.{status_number};
-ghost use Rattle.ptk_main_answers.specs.HostFaults.{IsHostFault};
 ghost use Rattle.ptk_main_files.specs.Outcomes.{PutsExplanation};
 
 use ptk_main_answers::{Files, explain_with};

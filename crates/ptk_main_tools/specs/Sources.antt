@@ -71,10 +71,6 @@ source_fault fault = asm_fault fault.line (definition.fault_number fault.kind)
 abbrev pub IsSourceFault : List ℕ → Fault → Type 0
 IsSourceFault bytes fault = (fault ≡ NoMemory) ⊎ ((first : definition.Fault) × (definition.source bytes ≡ Err first) × (fault ≡ Asm first.span.line (definition.fault_number first.kind)))
 
--- memory ran out, or a file can't be written (own)
-abbrev pub IsWriteFault : Fault → Type 0
-IsWriteFault fault = (fault ≡ NoMemory) ⊎ (fault ≡ WriteFailed)
-
 -- the source is refused, or a file can't be written (own)
 abbrev pub IsAsmFault : List ℕ → Fault → Type 0
 IsAsmFault bytes fault = (fault ≡ WriteFailed) ⊎ IsSourceFault bytes fault

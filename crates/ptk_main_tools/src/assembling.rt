@@ -4,10 +4,11 @@ ghost use Rattle.std.specs.Prelude.{◌≡◌, ◌+◌, ◌<◌, ◌==◌, if◌
 ghost use Rattle.std.specs.List.{list_all};
 ghost use Rattle.std.specs.Io.KnownBytes.{Appends};
 ghost use Rattle.ptk_asm_language.specs.Source as definition;
+ghost use Rattle.ptk_main_faults.specs.HostFaults.{IsHostFault};
 ghost use Rattle.ptk_main_faults.specs.Lines.{status_of};
 ghost use Rattle.ptk_main_faults.specs.Statuses.{status_number};
 ghost use Rattle.ptk_main_faults.specs.declared.status.ExitStatus.TheVariants.{Done, Refused};
-ghost use Rattle.ptk_main_tools.specs.Sources.{AreMixed, IsAsmFault, IsWriteFault, column_of, is_printable, is_shown, piece_of, piece_text, reason_words, refusal_line, source_fault, spot_text};
+ghost use Rattle.ptk_main_tools.specs.Sources.{AreMixed, IsAsmFault, column_of, is_printable, is_shown, piece_of, piece_text, reason_words, refusal_line, source_fault, spot_text};
 ghost use Rattle.ptk_main_tools.specs.Usage.{IsUsageStatus};
 
 use crate::reading::text_in;
@@ -115,7 +116,7 @@ fn put_labels(rt: &HostRuntime, text: &str, target: &str) -> Result<(), Fault<'s
 
 // Writes an image into a file.
 fn put_image(rt: &HostRuntime, image: &Image, target: &str) -> Result<(), Fault<'static>>
-    ensures { IfErr result IsWriteFault }
+    ensures { IfErr result IsHostFault }
 {
     let bytes = write_image(rt.alloc(), image)?;
     put_bytes(rt, bytes.as_slice(), target)
