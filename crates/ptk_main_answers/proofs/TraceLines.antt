@@ -1,9 +1,9 @@
 -- The line of a step is read as that step.
-use Rattle.std.proofs.Common.{◌≡◌, ◌∙◌, ◌<◌, ◌≤◌, ◌+◌, ◌*◌, ◌/◌, ◌%◌, ◌^◌, ℕ, zero, suc, Bool, true, false, ◌&&◌, List, [], ◌∷◌, ◌++◌, length, drop, Option, Some, option_map, decimal, min, refl, sym, ap, arith, append_assoc, append-nil, ◌==◌}
+use Rattle.std.proofs.Common.{◌≡◌, ◌∙◌, ◌<◌, ◌≤◌, ◌+◌, ◌*◌, ◌/◌, ◌%◌, ◌^◌, ℕ, zero, suc, Bool, true, false, List, [], ◌∷◌, ◌++◌, length, drop, Option, Some, option_map, decimal, min, refl, sym, ap, arith, append_assoc, append-nil, ◌==◌}
 use Rattle.std.specs.Prelude.{codes, cond, nat_lt, not, option_and_then}
 use Rattle.std.specs.List.{concat, list_all}
 use Rattle.std.specs.Char.{digit_value}
-use Rattle.std.specs.Str.Parse.{AllDigits, IsNumeral, digits_value}
+use Rattle.std.specs.Str.Parse.{AllDigits}
 use Rattle.std.proofs.Math.Nat.{div-div-eq-div-mul, div-eq_of_lt, pow-suc}
 use Rattle.std.proofs.Math.Seq.{drop-append-add}
 use Rattle.std.proofs.lemmas.Bool.{and_from, and_parts}
@@ -18,7 +18,7 @@ use Rattle.ptk_words_model.specs.Text.{hex_digit, hex_digits, hex_word, trace_li
 use Rattle.ptk_asm_language.specs.Lines.{without_ending}
 use Rattle.ptk_asm_language.specs.Reading.{capped}
 use Rattle.ptk_asm_language.specs.Tokens.{digit, digit_of, is_digit, magnitude, spelled_on}
-use Rattle.ptk_disasm.proofs.Numerals.{spelled_numeral}
+use Rattle.ptk_disasm.proofs.Numerals.{magnitude_numeral}
 use Rattle.ptk_main_answers.specs.TraceLines.{IsTraced, before_blank, behind_blank, step_if, step_line, thread_if, thread_in, tick_if, tick_in, word_if, word_in}
 
 -- ---- texts without a blank
@@ -73,17 +73,9 @@ parted text rest line is all =
 
 -- ---- numbers
 
-no_prefix : (c d : ℕ) → digit_value d < 10 → (c == 48 && d == 120) ≡ false
-no_prefix c d h = grind (arith, nat_tests)
-
-numeral : (ds : List ℕ) → IsNumeral 10 ds → magnitude ds ≡ Some (digits_value 10 ds)
-numeral [] is = absurd (omega (arith, is.0))
-numeral (c ∷ []) is = spelled_numeral 10 (c ∷ []) (omega arith) is
-numeral (c ∷ d ∷ ds) is = rw (no_prefix c d is.1.1.0) (spelled_numeral 10 (c ∷ d ∷ ds) (omega arith) is)
-
 decimal_read : (n : ℕ) → n < 2 ^ 64 → magnitude (decimal n) ≡ Some n
 decimal_read n h =
-    let facts = decimal_is_IsNumeral n h in numeral (decimal n) facts.0 ∙ ap (λ (m : ℕ). Some m) facts.1
+    let facts = decimal_is_IsNumeral n h in magnitude_numeral (decimal n) facts.0 ∙ ap (λ (m : ℕ). Some m) facts.1
 
 hex_digit_read : (d : ℕ) → d < 16 → digit_of 16 (hex_digit d) ≡ Some d
 unfolding digit_of digit is_digit
