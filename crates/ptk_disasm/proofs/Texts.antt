@@ -3,8 +3,7 @@ use Rattle.std.proofs.Common.{◌≡◌, ℕ, ◌+◌, ◌*◌, ◌%◌, ◌^◌
 use Rattle.std.specs.List.{list_all}
 use Rattle.std.specs.Int.{w32, to_le_bytes}
 use Rattle.std.proofs.lemmas.List.{append-nil}
-use Rattle.std.proofs.lemmas.Bool.Decides.{nat_tests}
-use Rattle.std.proofs.lemmas.Bool.{and_parts, eqb-true}
+use Rattle.std.proofs.lemmas.Bool.{and_parts, eq-eqb, eqb-false, eqb-true}
 use Rattle.ptk_asm_language.specs.declared.statement.Section.{Section}
 use Rattle.ptk_asm_language.specs.declared.statement.Section.TheVariants as section
 use Rattle.ptk_asm_language.specs.declared.place.Place.{Place}
@@ -14,12 +13,6 @@ use Rattle.ptk_disasm.specs.Disassembly.{Names, AreWithinLine, word_line, text_l
 use Rattle.ptk_disasm.proofs.Steps.{Stands}
 use Rattle.ptk_disasm.proofs.Passes.{Reaches, reaches-more}
 use Rattle.ptk_disasm.proofs.Segments.{lens, parts, reaches-same, word-reached, start, entry-reached, is_word, bytes_for, words-behind, word_below}
-
-unequal : (a b : ℕ) → (a == b) ≡ false → a ≡ b → ⊥
-unequal a b h e = grind (arith, nat_tests)
-
-the_same : (a b : ℕ) → a ≡ b → (a == b) ≡ true
-the_same a b e = grind (arith, nat_tests)
 
 joined : (t : List ℕ) (w : ℕ) (ws : List ℕ) (s : Section) → parts ((t ++ to_le_bytes w32 w) ++ bytes_for ws) [] [] s ≡ parts (t ++ bytes_for (w ∷ ws)) [] [] s
 joined t w ws section.Text = append_assoc t (to_le_bytes w32 w) (bytes_for ws)
@@ -53,7 +46,7 @@ pub text-reached : (names : Names) (within : AreWithinLine names) (entry at : �
     → Reaches (text_lines names entry at words) before section.Text (lens (at + 4 * length words) 0 0) (start entry) (parts (t ++ bytes_for words) [] [])
 text-reached names within entry at t [] before low high whole aligned all room stands =
     let e : at ≡ entry = omega (arith, low, high) in
-    rw (the_same at entry e)
+    rw (eq-eqb at entry e)
     (reaches-same (Entry ∷ []) before section.Text section.Text (lens at 0 0) (lens (at + 0) 0 0) (start entry) (parts t [] []) (parts (t ++ []) [] []) refl (ap (λ (k : ℕ). lens k 0 0) (omega arith)) (ended t)
     (entry_here entry at before (parts t [] []) e stands))
 text-reached names within entry at t (w ∷ ws) before low high whole aligned all room stands =
@@ -72,6 +65,6 @@ text-reached names within entry at t (w ∷ ws) before low high whole aligned al
         (λ b s. words-behind names within entry (at + 4) (at + 4) (t ++ to_le_bytes w32 w) ws b (start entry) (omega (arith, e)) facts.1 (omega (arith, room)) s)))
     by_test later false test =
         let facts = and_parts (is_word w) (list_all is_word ws) all in
-        let apart : at ≡ entry → ⊥ = unequal at entry test in
+        let apart : at ≡ entry → ⊥ = eqb-false at entry test in
         let past : at + 4 ≤ entry = grind (arith, low, whole, aligned, apart) in
         rw test (word_more names within at at w t ws before [] (start entry) (text_lines names entry (at + 4) ws) (word_below w facts.0) (omega (arith, room)) stands (λ b s. later b past s))

@@ -2,6 +2,7 @@
 use Rattle.std.proofs.Common.{◌≡◌, ◌∙◌, ℕ, zero, suc, ◌+◌, ◌-◌, ◌^◌, ◌<◌, ◌≤◌, ◌&&◌, min, Bool, true, false, List, Option, Some, None, MatchBool, inl, inr, length, refl, sym, ap, subst, arith}
 use Rattle.std.specs.Prelude.{if◌then◌else◌, is_none, unwrap_or}
 use Rattle.std.specs.Borrow.{Bor}
+use Rattle.std.proofs.lemmas.Bool.{both_ways}
 use Rattle.ptk_words.specs.declared.sections.Limits.{Limits}
 use Rattle.ptk_impact.specs.Impact.{IsImpact}
 use Rattle.ptk_impact.specs.Views.{SeenAlike}
@@ -34,10 +35,6 @@ one_holds P place count few is held =
     let exact : min (count + 1) (2 ^ 64 - 1) ≡ count + 1 = omega arith in
     inl (count, is, held, exact)
 
--- two answers to one test
-not_both : (test : Bool) → test ≡ false → test ≡ true → ⊥
-not_both test refuted is = let never : false ≡ true = sym refuted ∙ is in absurd (cc)
-
 not_there : (found : Option ℕ) (place : ℕ) → found ≡ None → found ≡ Some place → ⊥
 not_there found place refuted is = let never : None ≡ Some place = sym refuted ∙ is in absurd (cc)
 
@@ -53,10 +50,10 @@ module _ (renames : List Renamed) (asked : Option (Bor (List ℕ))) (old new : R
     (held : AreNewCounts renames asked old new place tally) where
   unasked_more : is_asked asked (section_at new.config.now place).name ≡ false → AreNewCounts renames asked old new (suc place) tally
   unasked_more refuted = (
-    inr (λ was. not_both _ refuted was.1, held.0),
-    inr (λ was. not_both _ refuted was.1, held.1),
-    inr (λ was. not_both _ refuted was.1, held.2),
-    inr (λ was. not_both _ refuted was.0, held.3),
+    inr (λ was. both_ways _ refuted was.1, held.0),
+    inr (λ was. both_ways _ refuted was.1, held.1),
+    inr (λ was. both_ways _ refuted was.1, held.2),
+    inr (λ was. both_ways _ refuted was.0, held.3),
     held.4,
   )
 
@@ -137,7 +134,7 @@ module _ (renames : List Renamed) (asked : Option (Bor (List ℕ))) (old new : R
       → AreGoneCounts renames asked old new listed (suc place) counts
   gone_more counts false found refuted after same =
       subst (λ (t : Tally). AreGoneCounts renames asked old new listed (suc place) t) (sym same)
-      (held.0, held.1, held.2, held.3, inr (λ gone. not_both _ refuted gone.0, held.4))
+      (held.0, held.1, held.2, held.3, inr (λ gone. both_ways _ refuted gone.0, held.4))
   gone_more counts true None is nowhere same =
       subst (λ (t : Tally). AreGoneCounts renames asked old new listed (suc place) t) (sym same)
       (held.0, held.1, held.2, held.3, one_holds (IsNoneNow renames asked old new) place tally.removed few (is, nowhere) held.4)

@@ -1,7 +1,7 @@
 -- How many columns there are, how wide they are, and where ticks and lanes are.
 use Rattle.std.proofs.Common.{◌≡◌, ◌∙◌, ℕ, zero, suc, ◌+◌, ◌-◌, ◌*◌, ◌/◌, ◌^◌, ◌<◌, ◌≤◌, true, false, List, length, get_or, take, min, max, sym, ap, ap₂, subst, arith}
 use Rattle.std.specs.Prelude.{nat_le, count_by, sum_by}
-use Rattle.std.proofs.Math.Nat.{mul-le-mul, mul-le-mul_right, le-mul_of_pos_right, mul_comm, mul_assoc, mul_right_comm, mul-div_cancel, div-le_self, div-le_of_le-mul, div-mul-le_self}
+use Rattle.std.proofs.Math.Nat.{le_trans, mul-le-mul, mul-le-mul_right, le-mul_of_pos_right, mul_comm, mul_assoc, mul_right_comm, mul-div_cancel, div-le_self, div-le_of_le-mul, div-mul-le_self}
 use Rattle.std.proofs.lemmas.Grind.{div_ceil_times}
 use Rattle.std.proofs.lemmas.List.{take_all}
 use Rattle.std.proofs.lemmas.List.Sums.{count_by_more_yes, count_by_more_no, sum_by_more}
@@ -115,11 +115,8 @@ room_rises : (fewer more width each : ℕ) → 0 < each → fewer ≤ more → L
 room_rises fewer more width each some le =
     let scaled : fewer * width ≤ more * width = mul-le-mul_right width le in
     let times : fewer * width / each * each ≤ fewer * width = div-mul-le_self (fewer * width) each in
-    let room : fewer * width / each ≤ more * width / each = le-div (fewer * width / each) (more * width) each some (together (fewer * width / each * each) (fewer * width) (more * width) times scaled) in
+    let room : fewer * width / each ≤ more * width / each = le-div (fewer * width / each) (more * width) each some (le_trans times scaled) in
     omega (arith, room)
-  where
-    together : (a b c : ℕ) → a ≤ b → b ≤ c → a ≤ c
-    together a b c p q = omega arith
 
 -- no later tick is further left
 pub place_rises : (scale : Scale) (tick later : ℕ) → tick ≤ later → place_of scale tick ≤ place_of scale later

@@ -1,16 +1,10 @@
 -- The least of 1, 2 and 5 times a power of ten that is no less than a number.
-use Rattle.std.proofs.Common.{◌≡◌, ◌∙◌, ℕ, suc, ◌+◌, ◌-◌, ◌*◌, ◌^◌, ◌<◌, ◌≤◌, Bool, true, false, Option, Some, cond, flat_map, min, ap, arith, add-one}
+use Rattle.std.proofs.Common.{◌≡◌, ◌∙◌, ℕ, suc, ◌+◌, ◌-◌, ◌*◌, ◌^◌, ◌<◌, ◌≤◌, Bool, false, Option, Some, cond, flat_map, min, ap, arith, add-one}
 use Rattle.std.specs.Prelude.{find, nat_le, unwrap_or}
 use Rattle.std.specs.List.{range_with_len}
 use Rattle.std.proofs.Math.Nat.{one-le-pow, pow-le-pow_right, pow-suc}
-use Rattle.std.proofs.lemmas.Bool.Decides.{nat_tests}
+use Rattle.std.proofs.lemmas.Bool.{le-leb, lt-leb}
 use Rattle.ptk_timeline.specs.Axis.{round_from, rounds_at}
-
-leb_true : (a b : ℕ) → a ≤ b → nat_le a b ≡ true
-leb_true a b le = grind (arith, nat_tests)
-
-leb_false : (a b : ℕ) → b < a → nat_le a b ≡ false
-leb_false a b lt = grind (arith, nat_tests)
 
 -- ---- powers
 
@@ -75,28 +69,28 @@ module _ (digits least : ℕ) where
 
     -- the power itself
     pub rest_one : least ≤ 10 ^ i → rest_from i ≡ 10 ^ i
-    rest_one le = rest_first ∙ ap (λ (b : Bool). tested b (nat_le least (10 ^ i * 2)) (nat_le least (10 ^ i * 5)) more) (leb_true least (10 ^ i) le)
+    rest_one le = rest_first ∙ ap (λ (b : Bool). tested b (nat_le least (10 ^ i * 2)) (nat_le least (10 ^ i * 5)) more) (le-leb least (10 ^ i) le)
 
     -- twice it
     pub rest_two : 10 ^ i < least → least ≤ 10 ^ i * 2 → rest_from i ≡ 10 ^ i * 2
     rest_two over le =
         rest_first
-        ∙ (ap (λ (b : Bool). tested b (nat_le least (10 ^ i * 2)) (nat_le least (10 ^ i * 5)) more) (leb_false least (10 ^ i) over)
-        ∙ ap (λ (b : Bool). tested false b (nat_le least (10 ^ i * 5)) more) (leb_true least (10 ^ i * 2) le))
+        ∙ (ap (λ (b : Bool). tested b (nat_le least (10 ^ i * 2)) (nat_le least (10 ^ i * 5)) more) (lt-leb least (10 ^ i) over)
+        ∙ ap (λ (b : Bool). tested false b (nat_le least (10 ^ i * 5)) more) (le-leb least (10 ^ i * 2) le))
 
     -- five times it
     pub rest_five : 10 ^ i * 2 < least → least ≤ 10 ^ i * 5 → rest_from i ≡ 10 ^ i * 5
     rest_five over le =
         rest_first
-        ∙ (ap (λ (b : Bool). tested b (nat_le least (10 ^ i * 2)) (nat_le least (10 ^ i * 5)) more) (leb_false least (10 ^ i) (omega (arith, over)))
-        ∙ (ap (λ (b : Bool). tested false b (nat_le least (10 ^ i * 5)) more) (leb_false least (10 ^ i * 2) over)
-        ∙ ap (λ (b : Bool). tested false false b more) (leb_true least (10 ^ i * 5) le)))
+        ∙ (ap (λ (b : Bool). tested b (nat_le least (10 ^ i * 2)) (nat_le least (10 ^ i * 5)) more) (lt-leb least (10 ^ i) (omega (arith, over)))
+        ∙ (ap (λ (b : Bool). tested false b (nat_le least (10 ^ i * 5)) more) (lt-leb least (10 ^ i * 2) over)
+        ∙ ap (λ (b : Bool). tested false false b more) (le-leb least (10 ^ i * 5) le)))
 
     -- a larger power
     pub rest_more : 10 ^ i * 5 < least → rest_from i ≡ rest_from (i + 1)
     unfolding rest_from
     rest_more over =
         rest_first
-        ∙ (ap (λ (b : Bool). tested b (nat_le least (10 ^ i * 2)) (nat_le least (10 ^ i * 5)) more) (leb_false least (10 ^ i) (omega (arith, over)))
-        ∙ (ap (λ (b : Bool). tested false b (nat_le least (10 ^ i * 5)) more) (leb_false least (10 ^ i * 2) (omega (arith, over)))
-        ∙ ap (λ (b : Bool). tested false false b more) (leb_false least (10 ^ i * 5) over)))
+        ∙ (ap (λ (b : Bool). tested b (nat_le least (10 ^ i * 2)) (nat_le least (10 ^ i * 5)) more) (lt-leb least (10 ^ i) (omega (arith, over)))
+        ∙ (ap (λ (b : Bool). tested false b (nat_le least (10 ^ i * 5)) more) (lt-leb least (10 ^ i * 2) (omega (arith, over)))
+        ∙ ap (λ (b : Bool). tested false false b more) (lt-leb least (10 ^ i * 5) over)))

@@ -1,8 +1,8 @@
 -- The marks that decisions make at the ticks of a picture.
-use Rattle.std.proofs.Common.{◌≡◌, ◌≢◌, ℕ, zero, suc, ◌+◌, ◌-◌, ◌*◌, ◌/◌, ◌<◌, ◌≤◌, ◌==◌, nat_lt, nat_le, min, max, Bool, true, false, not, ◌&&◌, ◌||◌, length, get_or, ◌⊎◌, inl, inr, refl, sym, ap, subst, ◌∙◌, arith, add-zero, add-suc, eqb-true, eq-eqb}
+use Rattle.std.proofs.Common.{◌≡◌, ◌≢◌, ℕ, zero, suc, ◌+◌, ◌-◌, ◌*◌, ◌/◌, ◌<◌, ◌≤◌, ◌==◌, nat_lt, nat_le, min, max, Bool, true, false, not, ◌&&◌, ◌||◌, length, get_or, ◌⊎◌, inl, inr, sym, ap, subst, ◌∙◌, arith, add-zero, add-suc, eq-eqb}
 use Rattle.std.proofs.Math.Nat.{div-one}
-use Rattle.std.proofs.lemmas.Bool.{cases_lt, le-ltb, lt-ltb, le-leb, lt-leb}
-use Rattle.std.proofs.Math.Bool.{and-false}
+use Rattle.std.proofs.lemmas.Bool.{cases_lt, le-ltb, lt-ltb, le-leb, lt-leb, ne_eqb}
+use Rattle.std.proofs.Math.Bool.{and-false, and-not_self, or-false}
 use Rattle.ptk_words_model.specs.State.{State}
 use Rattle.ptk_words.specs.Faults.{is_active}
 use Rattle.ptk_system.specs.World.{but_next}
@@ -15,27 +15,6 @@ use Rattle.ptk_timeline_segments.specs.Columns.{columns_of, start_of}
 use Rattle.ptk_timeline_segments.specs.Marking.{both, brought_by, marks_at, marks_of, marks_there, no_marks}
 use Rattle.ptk_timeline_segments.specs.Marked.{AllHaveCome, AreMarked, BeginsAs, IsAsOf, IsMarkedBy, IsMarkedTo, brought_to}
 use Rattle.ptk_timeline_segments.specs.Recordings.{TellsMarks}
-
--- ---- truth values
-
-pub not_not : (b : Bool) → not (not b) ≡ b
-not_not true = refl
-not_not false = refl
-
-or_false : (b : Bool) → (b || false) ≡ b
-or_false true = refl
-or_false false = refl
-
-and_not : (b : Bool) → (b && not b) ≡ false
-and_not true = refl
-and_not false = refl
-
-differs : (n m : ℕ) → n ≢ m → (n == m) ≡ false
-differs n m other = by (n == m) refl
-  where
-    by : (b : Bool) → (n == m) ≡ b → (n == m) ≡ false
-    by false e = e
-    by true e = absurd (other (eqb-true n m e))
 
 -- ---- marks as wholes
 
@@ -50,7 +29,7 @@ marks_are s s' l l' d d' h h' es el ed eh =
 both_none : (a : Marks) → both a no_marks ≡ a
 both_none a =
     marks_are (a.is_stepped || false) a.is_stepped (a.is_lost || false) a.is_lost (a.is_dropped || false) a.is_dropped (a.is_halted || false) a.is_halted
-    (or_false a.is_stepped) (or_false a.is_lost) (or_false a.is_dropped) (or_false a.is_halted)
+    (or-false a.is_stepped) (or-false a.is_lost) (or-false a.is_dropped) (or-false a.is_halted)
 
 -- ---- what a decision makes of marks
 
@@ -61,7 +40,7 @@ elsewhere_none b tick k other out =
     (own b.is_stepped) (lost out) (own b.is_dropped) (own b.is_halted)
   where
     own : (x : Bool) → ((tick == k) && x) ≡ false
-    own x = ap (λ (c : Bool). c && x) (differs tick k other)
+    own x = ap (λ (c : Bool). c && x) (ne_eqb tick k other)
 
     lost : (k < tick) ⊎ (tick + b.lost ≤ k) → (nat_le tick k && nat_lt k (tick + b.lost)) ≡ false
     lost (inl sooner) = ap (λ (c : Bool). c && nat_lt k (tick + b.lost)) (lt-leb tick k sooner)
@@ -88,7 +67,7 @@ there_same b from first i tick at low high =
     (ap (λ (c : Bool). c && b.is_stepped) own) (lost (cases_lt 0 b.lost)) (ap (λ (c : Bool). c && b.is_dropped) own) (ap (λ (c : Bool). c && b.is_halted) own)
   where
     own_by : (first < i) ⊎ (i ≤ first) → (i == first) ≡ (tick == (from + i))
-    own_by (inl later) = differs i first (omega (arith, later)) ∙ sym (differs tick (from + i) (omega (arith, later, at)))
+    own_by (inl later) = ne_eqb i first (omega (arith, later)) ∙ sym (ne_eqb tick (from + i) (omega (arith, later, at)))
     own_by (inr same) = eq-eqb i first (omega (arith, same, low)) ∙ sym (eq-eqb tick (from + i) (omega (arith, same, low, at)))
 
     own : (i == first) ≡ (tick == (from + i))
@@ -134,7 +113,7 @@ none_brought a b tick k e =
     let same : brought_by a b ≡ brought_by a a = ap (λ (s : State). brought_by a s) (sym e) in
     ap (λ (brought : Brought). marks_of brought tick k) same
     ∙ quiet_none (brought_by a a) tick k (le-ltb a.account.steps a.account.steps (omega arith)) (le-ltb a.part.console.dropped a.part.console.dropped (omega arith))
-    (and_not (is_active a.part.status)) (omega arith)
+    (and-not_self (is_active a.part.status)) (omega arith)
 
 marks_stay : (states : ℕ → State) (s : State) (from n m k : ℕ) → Stays states s (from + n) (from + (n + m)) → marks_at states from (n + m) k ≡ marks_at states from n k
 marks_stay states s from n zero k stays = ap (λ (j : ℕ). marks_at states from j k) (add-zero n)
