@@ -1,5 +1,5 @@
 -- What is sent of the objects of an answer, one behind the other.
-use Rattle.std.proofs.Common.{◌≡◌, ◌≢◌, ◌∙◌, ◌||◌, ℕ, ◌+◌, ◌<◌, ◌≤◌, Bool, true, false, List, [], ◌∷◌, ◌++◌, Option, Some, None, codes, flat_map, get_or, length, map, take, refl, sym, ap, subst, append_assoc, append-nil}
+use Rattle.std.proofs.Common.{◌≡◌, ◌≢◌, ◌∙◌, ◌||◌, ℕ, ◌+◌, ◌<◌, ◌≤◌, Bool, true, false, List, [], ◌∷◌, ◌++◌, Option, Some, None, codes, flat_map, get_or, length, map, take, refl, sym, ap, subst, append-nil}
 use Rattle.std.specs.Prelude.{◌↔◌, IsTrue, if◌then◌else◌, is_some}
 use Rattle.std.specs.Borrow.{Bor}
 use Rattle.std.specs.Option.{option_copied, option_map_or}
@@ -17,31 +17,16 @@ use Rattle.ptk_impact.specs.declared.limits.LimitChange.{LimitChange}
 use Rattle.ptk_main_runs.specs.Members.{SendsAll, number_member, object, object_member, optional_value, value_member}
 use Rattle.ptk_main_runs.specs.declared.members.Value.{Value}
 use Rattle.ptk_main_runs.specs.declared.members.Value.TheVariants.{Number, Word}
+use Rattle.ptk_main_runs.proofs.Sent.{logged, object_sent, sends_then}
 use Rattle.ptk_impact_answers.specs.declared.comparison.Comparison.{Comparison}
 use Rattle.ptk_impact_answers.specs.Comparisons.{by_key, impact_words, other_files}
 use Rattle.ptk_impact_answers.specs.Documents.{SendsChanges, SendsComparison, SendsDifferences, SendsIfOther, answer_members, arrival_member, faults_member, files_member, image_change_members, image_member, input_member, limit_member, limits_member, note_members, other_name_member, other_place_member, pair_member, windows_member}
 
 -- ---- one behind the other
 
-pub sends_then : (first rest : List Event) (old mid new : Log) → SendsAll first old mid → SendsAll rest mid new → SendsAll (first ++ rest) old new
-sends_then first rest None mid new a b = tt
-sends_then first rest (Some before) mid new a b =
-    let all = subst (λ (m : Log). SendsAll rest m new) a b in
-    all ∙ ap (λ (events : List Event). Some events) (append_assoc before first rest)
-
 pub nothing_sent : (log : Log) → SendsAll [] log log
 nothing_sent None = tt
 nothing_sent (Some before) = ap (λ (events : List Event). Some events) (sym (append-nil before))
-
-logged : (event : Event) (old new : Log) → Logs old new event → SendsAll (event ∷ []) old new
-logged event None new sent = tt
-logged event (Some before) new sent = sent
-
--- an object is its members between its marks
-pub object_sent : (inside : List Event) (a b c d : Log) → Logs a b (map_begins None) → SendsAll inside b c → Logs c d map_ends → SendsAll (object inside) a d
-object_sent inside a b c d begins sent ends =
-    sends_then (map_begins None ∷ []) (inside ++ (map_ends ∷ [])) a b d (logged (map_begins None) a b begins)
-    (sends_then inside (map_ends ∷ []) b c d sent (logged map_ends c d ends))
 
 pub object_member_sent : (key : List ℕ) (inside : List Event) (a b c d e : Log) → Logs a b (field_key key AsIs) → Logs b c (map_begins None) → SendsAll inside c d
     → Logs d e map_ends → SendsAll (object_member key inside) a e

@@ -17,6 +17,7 @@ use Rattle.ptk_main_runs.specs.Told.{status_in}
 use Rattle.ptk_main_runs.specs.World.{World, section_at, state_of}
 use Rattle.ptk_main_runs.specs.PartStatus.{PartStatus}
 use Rattle.ptk_main_runs.specs.PartStatus.TheVariants.{Idle, Running, Exited, Stopped, Refused}
+use Rattle.ptk_main_runs.proofs.Sent.{object_sent, sends_then}
 use Rattle.ptk_main_answers.specs.Json.{items_of, members_events, members_of, value_events}
 use Rattle.ptk_main_answers.specs.Documents.{answer_members, check_data, check_text, document_beginning, document_text, joined_text, number_member, part_data, part_text, partition_data, parts_data, parts_to, status_members, word_member}
 use Rattle.ptk_main_answers.proofs.JsonTexts.{text_of_sent}
@@ -31,26 +32,14 @@ events-append (m ∷ xs) ys =
 
 members_sent : (xs ys : List (List ℕ × Data)) (a b c : Log) → SendsAll (members_events (members_of xs)) a b → SendsAll (members_events (members_of ys)) b c
     → SendsAll (members_events (members_of (xs ++ ys))) a c
-members_sent xs ys None b c first more = tt
-members_sent xs ys (Some es) b c first more =
-    subst (λ (l : Log). SendsAll (members_events (members_of ys)) l c) first more
-    ∙ ap Some (append_assoc es (members_events (members_of xs)) (members_events (members_of ys)) ∙ ap (λ (r : List Event). es ++ r) (sym (events-append xs ys)))
-
--- an object is its members between its marks
-object_sent : (ms : List (List ℕ × Data)) (a b c d : Log) → Logs a b (map_begins None) → SendsAll (members_events (members_of ms)) b c → Logs c d map_ends
-    → SendsAll (value_events (object (members_of ms))) a d
-object_sent ms None b c d begins inside ends = tt
-object_sent ms (Some es) b c d begins inside ends =
-    let sent = members_events (members_of ms) in
-    let so_far = subst (λ (l : Log). SendsAll sent l c) begins inside in
-    subst (λ (l : Log). Logs l d map_ends) so_far ends
-    ∙ ap Some (append_assoc (es ++ map_begins None ∷ []) sent (map_ends ∷ []) ∙ append_assoc es (map_begins None ∷ []) (sent ++ map_ends ∷ []))
+members_sent xs ys a b c first more =
+    subst (λ (es : List Event). SendsAll es a c) (sym (events-append xs ys)) (sends_then (members_events (members_of xs)) (members_events (members_of ys)) a b c first more)
 
 -- an object whose members are sent in three parts
 three_sent : (xs ys zs : List (List ℕ × Data)) (a b c d e f : Log) → Logs a b (map_begins None) → SendsAll (members_events (members_of xs)) b c
     → SendsAll (members_events (members_of ys)) c d → SendsAll (members_events (members_of zs)) d e → Logs e f map_ends → SendsAll (value_events (object (members_of ((xs ++ ys) ++ zs)))) a f
 three_sent xs ys zs a b c d e f begins first second third ends =
-    object_sent ((xs ++ ys) ++ zs) a b e f begins (members_sent (xs ++ ys) zs b d e (members_sent xs ys b c d first second) third) ends
+    object_sent (members_events (members_of ((xs ++ ys) ++ zs))) a b e f begins (members_sent (xs ++ ys) zs b d e (members_sent xs ys b c d first second) third) ends
 
 abbrev counts : ℕ → ℕ → List ℕ → List (List ℕ × Data)
 counts steps lost output = number_member (codes "steps") steps ∷ number_member (codes "lost") lost ∷ word_member (codes "output") output ∷ []

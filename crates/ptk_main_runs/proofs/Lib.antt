@@ -1,2 +1,3 @@
+pub mod Sent
 pub use Rattle.ptk_system.proofs.Keeping
 pub use Rattle.ptk_system.proofs.Runs

@@ -1,10 +1,10 @@
 -- Lemmas on what is sent of a partition's figures.
-use Rattle.std.proofs.Common.{◌≡◌, ℕ, ◌+◌, ◌-◌, ◌<◌, ◌≤◌, Bool, true, List, [], ◌∷◌, ◌++◌, Option, Some, None, codes, get_or, length, min, slice_index, take, ◌∙◌, ap, arith, append_assoc, subst, sym, zero-add}
+use Rattle.std.proofs.Common.{◌≡◌, ℕ, ◌+◌, ◌-◌, ◌<◌, ◌≤◌, Bool, true, List, [], ◌∷◌, Option, Some, None, codes, get_or, length, min, slice_index, take, ◌∙◌, ap, arith, subst, sym, zero-add}
 use Rattle.std.specs.List.{range_with_len}
 use Rattle.std.proofs.lemmas.Bool.{ne_eqb}
 use Rattle.std.proofs.lemmas.List.{get_or_read, take_more, take_all}
 use Rattle.std.proofs.lemmas.List.FromFn.{get_or-range_with_len, length-range_with_len}
-use Rattle.serde.specs.Event.{Event, Log, Logs, WritesEach, field_key, map_begins, map_ends, seq_begins, seq_ends}
+use Rattle.serde.specs.Event.{Log, Logs, WritesEach, field_key, map_begins, map_ends, seq_begins, seq_ends}
 use Rattle.serde.specs.declared.name.Case.TheVariants.{AsIs}
 use Rattle.serde.proofs.Events.{WritesEach-snoc}
 use Rattle.ptk_words.specs.declared.TheConstants.{LAST_TICK, THREAD_LIMIT}
@@ -27,21 +27,11 @@ use Rattle.ptk_statistics_figures.specs.Lengths.{mean_of}
 use Rattle.ptk_statistics_figures.specs.Mutexes.{is_mutex_used}
 use Rattle.ptk_statistics_figures.specs.Threads.{calls_at, is_used}
 use Rattle.ptk_statistics_run.specs.Members.{SendsAll, all_members, number_member, object_member, optional_value, value_event, word_member}
+use Rattle.ptk_statistics_run.proofs.Sent.{object_sent}
 use Rattle.ptk_statistics.specs.Words.{word_of_doing, word_of_outcome}
 use Rattle.ptk_statistics.specs.Document.{InArray, InObject, SendsActivations, SendsCall, SendsCalls, SendsCounted, SendsFigures, SendsIf, SendsMutex, SendsMutexAt, SendsMutexes, SendsThread, SendsThreadAt, SendsThreads, SendsTicks, SendsUsedMutex, SendsUsedThread, call_items, longest_member, pair_member, standing_members}
 
 -- ---- one behind the other
-
-sends_then : (first rest : List Event) (old mid new : Log) → SendsAll first old mid → SendsAll rest mid new → SendsAll (first ++ rest) old new
-sends_then first rest None mid new a b = tt
-sends_then first rest (Some before) mid new a b =
-    let all = subst (λ (m : Log). SendsAll rest m new) a b in
-    all ∙ ap (λ (events : List Event). Some events) (append_assoc before first rest)
-
--- one event
-logged : (event : Event) (old new : Log) → Logs old new event → SendsAll (event ∷ []) old new
-logged event None new sent = tt
-logged event (Some before) new sent = sent
 
 -- it is wanted
 wanted : (is used : Bool) (part : Log → Log → Type 0) (old new : Log) → is ≡ used → is ≡ true → part old new → SendsIf used part old new
@@ -91,9 +81,7 @@ pub call_sent : (name : List ℕ) (count : CallCount) (old begun listed new : Lo
     → SendsAll (all_members (word_member (codes "call") name ∷ number_member (codes "made") count.made ∷ number_member (codes "refused") count.refused ∷ [])) begun listed
     → Logs listed new map_ends → SendsAll (call_items name count) old new
 call_sent name count old begun listed new made a b c =
-    rw (ne_eqb count.made 0 made)
-    (sends_then (map_begins None ∷ []) _ old begun new (logged (map_begins None) old begun a)
-    (sends_then _ (map_ends ∷ []) begun listed new b (logged map_ends listed new c)))
+    rw (ne_eqb count.made 0 made) (object_sent _ old begun listed new a b c)
 
 pub longest_sent : (key : List ℕ) (longest : Option Longest) (there : Longest) (number from : ℕ) (old new : Log) → longest ≡ Some there
     → number ≡ there.thread → from ≡ there.from

@@ -3,3 +3,4 @@ pub mod Sums
 pub mod Gathering
 pub mod Parts
 pub mod Stretches
+pub use Rattle.ptk_main_runs.proofs.Sent

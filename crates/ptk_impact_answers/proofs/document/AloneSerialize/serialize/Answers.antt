@@ -1,6 +1,6 @@
 use Rattle.std.proofs.lemmas.Result.{on_ok_weaker}
 use Rattle.ptk_impact_answers.specs.Documents.{answer_members}
-use Rattle.ptk_impact_answers.proofs.Sent.{object_sent}
+use Rattle.ptk_main_runs.proofs.Sent.{object_sent}
 use Rattle.ptk_impact_answers.proofs.document.AloneSerialize.serialize.Goals as goal
 
 pub returns : goal.returns
