@@ -9,3 +9,4 @@ pub mod Telling
 pub mod Passing
 pub mod Lanes
 pub mod Recordings
+pub use Rattle.ptk_system.proofs.Keeping

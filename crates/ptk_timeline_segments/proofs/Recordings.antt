@@ -1,8 +1,7 @@
 -- What all lanes show, from one change to the next, and in the end.
-use Rattle.std.proofs.Common.{◌≡◌, ℕ, ◌+◌, ◌<◌, ◌≤◌, List, ◌++◌, length, take, drop, get_or, ◌⊎◌, inl, inr, sym, ap, subst, ◌∙◌, arith}
+use Rattle.std.proofs.Common.{◌≡◌, ℕ, ◌+◌, ◌<◌, ◌≤◌, List, length, get_or, ◌⊎◌, inl, inr, sym, ap, subst, ◌∙◌, arith}
 use Rattle.std.proofs.Math.Nat.{mul-le-mul_right}
 use Rattle.std.proofs.lemmas.Bool.{cases_lt}
-use Rattle.std.proofs.lemmas.List.{take-append-le, take_all}
 use Rattle.ptk_words_windows.specs.Windows.{OwnTicks, own_ticks}
 use Rattle.ptk_words_model.specs.State.{State}
 use Rattle.ptk_system.specs.Going.{GoesOnAsIs}
@@ -36,12 +35,6 @@ lanes_back first now n tick scale lanes goes are =
 
 pub lanes_later : (world : World) (scale : Scale) (n m : ℕ) (lanes : List Lane) → AreLanesOf world scale n lanes → ((p : ℕ) (default : Lane) → p < length lanes → m ≤ (get_or lanes p default).due) → AreLanesOf world scale m lanes
 lanes_later world scale n m lanes are due = record { count = are.count; scales = are.scales; due = due; tells = are.tells }
-
--- what a slice of a vector's items is once it is written back
-pub written : (new items : List Lane) (n : ℕ) → n ≡ length new → take n (new ++ drop (length new) items) ≡ new
-written new items n all =
-    ap (λ (k : ℕ). take k (new ++ drop (length new) items)) all
-    ∙ (take-append-le (length new) new (drop (length new) items) (omega arith) ∙ take_all (length new) new (omega arith))
 
 pub show_told : (world : World) (scale : Scale) (tick : ℕ) (lanes given new : List Lane) → given ≡ lanes → length new ≡ length given → world.tick ≡ tick + 1 → tick < scale.to → AreLanesOf world scale tick lanes
     → ((p : ℕ) (default : Lane) → p < length given → p < length world.config.sections → IsShown world p tick (get_or given p default) (get_or new p default))

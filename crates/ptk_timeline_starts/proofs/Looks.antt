@@ -1,8 +1,8 @@
 -- What is seen of the numbers of threads, look by look.
-use Rattle.std.proofs.Common.{◌≡◌, ◌≢◌, ◌∙◌, ◌⊎◌, inl, inr, ℕ, zero, suc, ◌+◌, ◌-◌, ◌<◌, ◌≤◌, Bool, true, false, cond, List, [], ◌∷◌, ◌++◌, Option, Some, drop, take, length, max, replicate, refl, sym, ap, ap₂, subst, arith, get_or-set_other, get_or-set_same}
+use Rattle.std.proofs.Common.{◌≡◌, ◌≢◌, ◌∙◌, ◌⊎◌, inl, inr, ℕ, zero, suc, ◌+◌, ◌-◌, ◌<◌, ◌≤◌, Bool, true, false, cond, List, [], ◌∷◌, Option, Some, length, max, replicate, refl, sym, ap, ap₂, subst, arith, get_or-set_other, get_or-set_same}
 use Rattle.std.specs.Prelude.{not, ◌&&◌, slice_get, slice_index_or, slice_set}
 use Rattle.std.proofs.lemmas.Bool.{cases_lt}
-use Rattle.std.proofs.lemmas.List.{get_or_default, get_or-replicate, length-replicate, take-append-le, take_all}
+use Rattle.std.proofs.lemmas.List.{get_or_default, get_or-replicate, length-replicate}
 use Rattle.ptk_words.specs.declared.TheConstants.{THREAD_LIMIT}
 use Rattle.ptk_timeline_segments.specs.Activities.{activity_in}
 use Rattle.ptk_timeline_segments.specs.Shades.{shade_of}
@@ -52,19 +52,7 @@ module _ (world : World) (p n t : ℕ) (before after : List Seen) (item new : Se
   pub one_looked : AreLookedTo world p (n + 1) before (slice_set after n new)
   one_looked = record { seen = seen_more; later = later_more }
 
--- what a slice of a vector's items is once it is written back
-pub written : {A : Type 0} → (new items : List A) (n : ℕ) → n ≡ length new → take n (new ++ drop (length new) items) ≡ new
-written {A = A} new items n all =
-    ap (λ (k : ℕ). take k (new ++ drop (length new) items)) all
-    ∙ (take-append-le (length new) new (drop (length new) items) (omega arith) ∙ take_all (length new) new (omega arith))
-
 -- ---- over the ticks
-
--- a later look at a run
-pub run_again : (first now later : World) (n : ℕ) → now ≡ at_tick now.tick first → later ≡ at_tick n now → later ≡ at_tick later.tick first
-run_again first now later n is goes =
-    let same : later ≡ at_tick n first = goes ∙ ap (at_tick n) is in
-    same ∙ ap (λ (k : ℕ). at_tick k first) (sym (ap (λ (w : World). w.tick) same))
 
 -- what is seen of a number
 abbrev pub seen_as : Bool → Option ℕ → Seen

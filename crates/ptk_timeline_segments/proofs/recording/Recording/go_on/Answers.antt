@@ -1,6 +1,7 @@
 use Rattle.std.proofs.Common.{◌≡◌, length, subst, sym, arith}
 use Rattle.ptk_timeline_segments.specs.Recordings.{AreLanesOf}
-use Rattle.ptk_timeline_segments.proofs.Recordings.{pass_told, written}
+use Rattle.ptk_timeline_segments.proofs.Lists.{written}
+use Rattle.ptk_timeline_segments.proofs.Recordings.{pass_told}
 use Rattle.ptk_timeline_segments.proofs.recording.Recording.go_on.Goals as goal
 
 pub returns-clause-right : goal.returns-clause-right

@@ -1,7 +1,7 @@
 use Rattle.std.proofs.Common.{◌≡◌, List, length, subst, sym, arith}
+use Rattle.ptk_timeline_segments.proofs.Lists.{written}
 use Rattle.ptk_timeline_starts.specs.declared.starts.Seen.{Seen}
 use Rattle.ptk_timeline_starts.specs.Starts.{AreLooked}
-use Rattle.ptk_timeline_starts.proofs.Looks.{written}
 use Rattle.ptk_timeline_starts.proofs.starts.Numbers.look.Goals as goal
 
 pub returns : goal.returns

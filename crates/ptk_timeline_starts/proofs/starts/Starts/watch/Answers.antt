@@ -1,8 +1,9 @@
 use Rattle.std.proofs.Common.{◌≡◌, ◌∙◌, ℕ, ◌+◌, ◌<◌, ◌≤◌, length, max, min, refl, sym, ap, subst, arith}
 use Rattle.ptk_timeline_segments.specs.Activities.{activity_in}
 use Rattle.ptk_timeline_segments.specs.World.{World, at_tick, but_next, state_of}
+use Rattle.ptk_timeline_segments.proofs.Keeping.{at_again}
 use Rattle.ptk_timeline_starts.specs.Starts.{AreSeenTo}
-use Rattle.ptk_timeline_starts.proofs.Looks.{all_looked, all_stayed, goes_on, run_again}
+use Rattle.ptk_timeline_starts.proofs.Looks.{all_looked, all_stayed, goes_on}
 use Rattle.ptk_timeline_starts.proofs.starts.Starts.watch.Goals as goal
 
 pub loop-tick-init : goal.loop-tick-init
@@ -38,8 +39,8 @@ pub loop-tick-preserved : goal.loop-tick-preserved
 loop-tick-preserved c =
     let so = c.loop-tick.invariant in
     let first = c.args.system.now in
-    let run_on : c.run_to.new.self ≡ at_tick c.run_to.new.self.tick first = run_again first c.loop-tick.system c.run_to.new.self _ so.run c.run_to.ensures in
-    let run : c.compute_to.new.self ≡ at_tick c.compute_to.new.self.tick first = run_again first c.run_to.new.self c.compute_to.new.self _ run_on c.compute_to.ensures.run in
+    let run_on : c.run_to.new.self ≡ at_tick c.run_to.new.self.tick first = at_again first c.loop-tick.system c.run_to.new.self _ so.run c.run_to.ensures in
+    let run : c.compute_to.new.self ≡ at_tick c.compute_to.new.self.tick first = at_again first c.run_to.new.self c.compute_to.new.self _ run_on c.compute_to.ensures.run in
     let early : c.loop-tick.tick < c.args.to = omega (arith, c.loop-tick-test.true, c.ticks-end.ensures) in
     let reached : c.run_to.new.self.tick ≡ max c.loop-tick.system.tick c.new.result = ap (λ (w : World). w.tick) c.run_to.ensures in
     let behind : c.loop-tick.system.tick ≤ c.loop-tick.tick = omega (arith, so.behind, early) in
