@@ -15,7 +15,8 @@ use Rattle.serde_json.proofs.Texts.{print-outline}
 use Rattle.serde_json.proofs.FreeTexts.{tokens_by}
 use Rattle.ptk_words.specs.Names.{Byte}
 use Rattle.ptk_explanation.specs.declared.members.MemberValue.{MemberValue}
-use Rattle.ptk_explanation.specs.Members.{data_of, member_text, members_of, object_text, shown_member, shown_members}
+use Rattle.ptk_explanation_facts.specs.Members.{members_of}
+use Rattle.ptk_explanation.specs.Members.{data_of, member_text, object_text, shown_member, shown_members}
 
 -- ---- a text
 

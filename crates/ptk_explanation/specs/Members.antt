@@ -2,9 +2,10 @@
 use Rattle.std.specs.Prelude.{ℕ, Bool, true, false, List, [], ◌∷◌, ◌++◌, Option, Some, None, codes, flat_map, option_map}
 use Rattle.std.specs.Borrow.{Bor}
 use Rattle.json.specs.Print.{quoted}
-use Rattle.serde_json.specs.Data.{Data, boolean, number, string, unsigned, object, Members, no_members, member}
+use Rattle.serde_json.specs.Data.{Data, boolean, number, string, unsigned, object}
 use Rattle.serde_json.specs.Written.{comma_if, compact_text}
 use Rattle.ptk_words.specs.Names.{Byte}
+use Rattle.ptk_explanation_facts.specs.Members.{members_of}
 use Rattle.ptk_explanation.specs.declared.members.MemberValue.{MemberValue}
 use Rattle.ptk_explanation.specs.declared.members.MemberValue.TheVariants as value
 use Rattle.ptk_explanation.specs.declared.members.Shown.{Shown}
@@ -63,11 +64,6 @@ abbrev pub all_members : List (List (List Byte × Data)) → List (List Byte × 
 all_members members = flat_map (λ member. member) members
 
 -- ---- texts
-
--- the members of an object, each a value under a key (RFC 8259 section 4)
-abbrev pub members_of : List (List Byte × Data) → Members
-members_of [] = no_members
-members_of (m ∷ ms) = member m.0 m.1 (members_of ms)
 
 -- the text of an object of these members, with no space (RFC 8259 section 2)
 abbrev pub object_text : List (List Byte × Data) → List Byte

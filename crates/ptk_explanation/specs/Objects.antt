@@ -22,7 +22,8 @@ use Rattle.ptk_explanation_facts.specs.declared.history.History.{History}
 use Rattle.ptk_explanation_facts.specs.Deadlocks.{BeginsCycle, cycle_from}
 use Rattle.ptk_explanation_facts.specs.Facts.{facts_of, live_pc, live_stack, owner_of}
 use Rattle.ptk_explanation_facts.specs.Histories.{no_history}
-use Rattle.ptk_explanation.specs.Members.{all_members, fact_member, members_of, number_data, number_member, object_text, text_member}
+use Rattle.ptk_explanation_facts.specs.Members.{members_of}
+use Rattle.ptk_explanation.specs.Members.{all_members, fact_member, number_data, number_member, object_text, text_member}
 use Rattle.ptk_explanation_facts.specs.Standing.{standing_of, word_of_standing}
 use Rattle.ptk_explanation_facts.specs.Stops.{Stopped, stop_in}
 use Rattle.ptk_explanation.specs.Targets.{aim_of}

@@ -6,6 +6,7 @@ pub mod Standing
 pub mod Stops
 pub use Rattle.ptk_main_runs.specs.Activities
 pub use Rattle.ptk_main_runs.specs.Activity
+pub use Rattle.ptk_main_runs.specs.Members
 pub use Rattle.ptk_main_runs.specs.Missing
 pub use Rattle.ptk_main_runs.specs.PartStatus
 pub use Rattle.ptk_main_runs.specs.Parts

@@ -12,13 +12,13 @@ use Rattle.serde_json.specs.Data.{Data, object}
 use Rattle.serde_json.specs.Sent.{IsTextOf}
 use Rattle.serde_json.specs.Written.{comma_if, compact_text, has_float, items_text}
 use Rattle.serde_json.proofs.OnLiterals.{serde_json_on_literals}
-use Rattle.ptk_main_runs.specs.Members.{SendsAll}
+use Rattle.ptk_main_runs.specs.Members.{SendsAll, members_of}
 use Rattle.ptk_main_runs.specs.Told.{status_in}
 use Rattle.ptk_main_runs.specs.World.{World, section_at, state_of}
 use Rattle.ptk_main_runs.specs.PartStatus.{PartStatus}
 use Rattle.ptk_main_runs.specs.PartStatus.TheVariants.{Idle, Running, Exited, Stopped, Refused}
 use Rattle.ptk_main_runs.proofs.Sent.{object_sent, sends_then}
-use Rattle.ptk_main_answers.specs.Json.{items_of, members_events, members_of, value_events}
+use Rattle.ptk_main_answers.specs.Json.{items_of, members_events, value_events}
 use Rattle.ptk_main_answers.specs.Documents.{answer_members, check_data, check_text, document_beginning, document_text, joined_text, number_member, part_data, part_text, partition_data, parts_data, parts_to, status_members, word_member}
 use Rattle.ptk_main_answers.proofs.JsonTexts.{text_of_sent}
 

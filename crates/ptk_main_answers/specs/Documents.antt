@@ -14,7 +14,8 @@ use Rattle.ptk_main_runs.specs.World.{World, section_at, state_of}
 use Rattle.ptk_main_runs.specs.Told.{status_in}
 use Rattle.ptk_main_runs.specs.PartStatus.{PartStatus}
 use Rattle.ptk_main_runs.specs.PartStatus.TheVariants.{Idle, Running, Exited, Stopped, Refused}
-use Rattle.ptk_main_answers.specs.Json.{items_of, members_of}
+use Rattle.ptk_main_runs.specs.Members.{members_of}
+use Rattle.ptk_main_answers.specs.Json.{items_of}
 
 -- ---- members and items
 

@@ -1,15 +1,10 @@
--- JSON values by their members and items, and what they send to a writer of JSON (RFC 8259).
-use Rattle.std.specs.Prelude.{ℕ, List, [], ◌∷◌, ◌++◌, None}
+-- JSON values by their items, and what they send to a writer of JSON (RFC 8259).
+use Rattle.std.specs.Prelude.{List, [], ◌∷◌, ◌++◌, None}
 use Rattle.serde.specs.Event as event
 use Rattle.serde.specs.Event.{Event}
 use Rattle.serde.specs.declared.name.Case.TheVariants.{AsIs}
 use Rattle.serde_json.specs.Data.{Data, null, boolean, number, string, array, object, Items, no_items, item, Members, no_members, member}
 use Rattle.serde_json.specs.Events.{number_event}
-
--- the members of an object, each a value under a key (RFC 8259 section 4)
-abbrev pub members_of : List (List ℕ × Data) → Members
-members_of [] = no_members
-members_of (m ∷ ms) = member m.0 m.1 (members_of ms)
 
 -- the items of an array (RFC 8259 section 5)
 abbrev pub items_of : List Data → Items

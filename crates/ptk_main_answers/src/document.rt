@@ -8,9 +8,9 @@ ghost use Rattle.json.specs.Lex.{tokens};
 ghost use Rattle.json.specs.Print.{print};
 ghost use Rattle.serde_json.specs.Written.{comma_if, compact_text};
 ghost use Rattle.ptk_main_faults.specs.HostFaults.{IsHostFault};
-ghost use Rattle.ptk_main_runs.specs.Members.{SendsAll};
+ghost use Rattle.ptk_main_runs.specs.Members.{SendsAll, members_of};
 ghost use Rattle.ptk_main_answers.specs.Documents.{document_beginning, document_text, joined_text, part_text, partition_data, parts_data, status_members};
-ghost use Rattle.ptk_main_answers.specs.Json.{members_events, members_of, value_events};
+ghost use Rattle.ptk_main_answers.specs.Json.{members_events, value_events};
 
 use crate::naming::part_name;
 use crate::text::{json_text, put_bytes};

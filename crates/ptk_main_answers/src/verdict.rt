@@ -6,11 +6,11 @@ ghost use Rattle.std.specs.Io.KnownBytes.{Appends};
 ghost use Rattle.json.specs.Lex.{tokens};
 ghost use Rattle.json.specs.Print.{print};
 ghost use Rattle.ptk_words.specs.Names.{newline};
-ghost use Rattle.ptk_main_runs.specs.Members.{SendsAll};
+ghost use Rattle.ptk_main_runs.specs.Members.{SendsAll, members_of};
 ghost use Rattle.ptk_main_faults.specs.HostFaults.{IsHostFault};
 ghost use Rattle.ptk_main_faults.specs.Lines.{line_of};
 ghost use Rattle.ptk_main_answers.specs.Documents.{answer_members, check_data, check_text};
-ghost use Rattle.ptk_main_answers.specs.Json.{members_events, members_of, value_events};
+ghost use Rattle.ptk_main_answers.specs.Json.{members_events, value_events};
 
 use crate::text::{json_text, put_bytes};
 use ptk_main_faults::Fault;

@@ -1,10 +1,16 @@
--- The members of JSON objects, as what they send to a writer of JSON (RFC 8259 section 4).
+-- The members of JSON objects, as values, and as what they send to a writer of JSON (RFC 8259 section 4).
 use Rattle.std.specs.Prelude.{◌≡◌, ℕ, List, [], ◌∷◌, ◌++◌, Option, Some, None, ⊤, flat_map}
 use Rattle.std.specs.Borrow.{Bor}
 use Rattle.serde.specs.Event.{Event, Log, unsigned, text, nothing, map_begins, map_ends, field_key}
 use Rattle.serde.specs.declared.name.Case.TheVariants.{AsIs}
+use Rattle.serde_json.specs.Data.{Data, Members, no_members, member}
 use Rattle.ptk_main_runs.specs.declared.members.Value.{Value}
 use Rattle.ptk_main_runs.specs.declared.members.Value.TheVariants.{Number, Word, Null}
+
+-- the members of an object, each a value under a key (RFC 8259 section 4)
+abbrev pub members_of : List (List ℕ × Data) → Members
+members_of [] = no_members
+members_of (m ∷ ms) = member m.0 m.1 (members_of ms)
 
 -- a number, null where there is none (own)
 abbrev pub optional_value : Option ℕ → Value
