@@ -1,9 +1,6 @@
 -- The object of an explanation, part by part.
 use Rattle.std.proofs.Common.{◌≡◌, ℕ, List, [], ◌++◌, decimal, refl, sym, ap, ◌∙◌, append-nil}
-use Rattle.std.specs.Prelude.{Bool, if◌then◌else◌, Option, Some, None, codes}
-use Rattle.std.specs.Str.{IsUtf8, is_utf8}
-use Rattle.std.proofs.lemmas.Bool.{false_from_ne_true}
-use Rattle.std.proofs.lemmas.Str.{IsUtf8-from_is_utf8, is_utf8-from_IsUtf8}
+use Rattle.std.specs.Prelude.{Option, Some, codes}
 use Rattle.json.specs.Print.{quoted}
 use Rattle.serde_json.specs.Data.{Data}
 use Rattle.serde_json.specs.Written.{compact_text}
@@ -14,20 +11,12 @@ use Rattle.ptk_explanation_facts.specs.declared.facts.ThreadFacts.{ThreadFacts}
 use Rattle.ptk_explanation_facts.specs.declared.history.History.{History}
 use Rattle.ptk_explanation_facts.specs.Facts.{live_pc}
 use Rattle.ptk_explanation.specs.Members.{object_text}
-use Rattle.ptk_explanation.specs.Objects.{IsBody, IsDeadlocksText, IsDocument, IsGoing, head_text, offset_at, registers_text, stop_members, stop_text, symbol_at, text_in, thread_data, thread_members, threads_text}
+use Rattle.ptk_explanation.specs.Objects.{IsBody, IsDeadlocksText, IsDocument, IsGoing, head_text, offset_at, registers_text, stop_members, stop_text, symbol_at, thread_data, thread_members, threads_text}
 use Rattle.ptk_explanation_facts.specs.Standing.{standing_of, word_of_standing}
 use Rattle.ptk_explanation_facts.specs.Stops.{Stopped}
 use Rattle.ptk_explanation.proofs.Objects.{three_pushed, two_pushed}
 
 -- ---- a thread and a stop
-
--- a name is a text
-pub text_found : (name text : List Byte) → text ≡ name → IsUtf8 name → Some text ≡ text_in name
-text_found name text same is = ap Some same ∙ sym (ap (λ (b : Bool). if b then Some name else None) (is_utf8-from_IsUtf8 name is))
-
--- or it is none
-pub text_missing : (name : List Byte) → ¬ (IsUtf8 name) → None ≡ text_in name
-text_missing name other = sym (ap (λ (b : Bool). if b then Some name else None) (false_from_ne_true (is_utf8 name) (λ e. other (IsUtf8-from_is_utf8 name e))))
 
 pub thread_pushed : (symbols : List (ℕ × List ℕ)) (facts : ThreadFacts) (pc : Option Pointer) (symbol : Option (List Byte)) (offset : Option ℕ) (members : List (List Byte × Data)) (old new : List Byte)
     → pc ≡ live_pc facts.thread → symbol ≡ symbol_at symbols pc → offset ≡ offset_at symbols pc → members ≡ thread_members symbol offset facts → new ≡ old ++ object_text members

@@ -1,7 +1,6 @@
 -- The JSON object of an explanation, and its parts (docs/FORMATS.md, "Explanation").
-use Rattle.std.specs.Prelude.{◌≡◌, ◌↔◌, IsTrue, ℕ, ◌+◌, min, Bool, true, false, filter, List, [], ◌∷◌, ◌++◌, length, Option, Some, None, codes, decimal, if◌then◌else◌, map, option_and_then, option_map, slice_index_or}
+use Rattle.std.specs.Prelude.{◌≡◌, ◌↔◌, IsTrue, ℕ, ◌+◌, min, Bool, true, false, filter, List, [], ◌∷◌, ◌++◌, length, Option, Some, None, codes, decimal, map, option_and_then, option_map, slice_index_or}
 use Rattle.std.specs.List.{concat, range_with_len}
-use Rattle.std.specs.Str.{is_utf8}
 use Rattle.json.specs.Print.{quoted}
 use Rattle.serde_json.specs.Data.{Data, Items, array, no_items, item, object}
 use Rattle.serde_json.specs.Written.{comma_if, compact_text}
@@ -10,7 +9,7 @@ use Rattle.ptk_words.specs.Names.{Byte, Pointer, Priority, ThreadNumber}
 use Rattle.ptk_words.specs.Processor.{Processor, register}
 use Rattle.ptk_words_model.specs.State.{Part}
 use Rattle.ptk_words_model.specs.Text.{cause_text}
-use Rattle.ptk_symbols.specs.Tables.{nearest}
+use Rattle.ptk_symbols.specs.Tables.{nearest, text_in}
 use Rattle.ptk_explanation_facts.specs.Activities.{thread_of_owner}
 use Rattle.ptk_explanation_facts.specs.PartStatus.{PartStatus}
 use Rattle.ptk_explanation_facts.specs.PartStatus.TheVariants as status
@@ -30,10 +29,6 @@ use Rattle.ptk_explanation.specs.Targets.{aim_of}
 use Rattle.ptk_explanation.specs.Words.{ceiling_in, name_of_policy, name_of_protocol, name_of_type}
 
 -- ---- places
-
--- a name, where it is a text (own)
-abbrev pub text_in : List Byte → Option (List Byte)
-text_in name = if is_utf8 name then Some name else None
 
 -- the symbol that is nearest to an address, and the distance from its beginning, where there is an address and a symbol begins at or below it (own)
 abbrev pub place_of : List (ℕ × List ℕ) → Option Pointer → Option (List ℕ × ℕ)

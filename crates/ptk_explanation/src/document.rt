@@ -6,7 +6,7 @@ ghost use Rattle.ptk_words.specs.Names.{Byte};
 ghost use Rattle.ptk_explanation_facts.specs.World.{section_at, state_of};
 ghost use Rattle.ptk_explanation_facts.specs.Deadlocks.{cycle_from};
 ghost use Rattle.ptk_explanation.specs.Members.{shown_members};
-ghost use Rattle.ptk_explanation.specs.Objects.{IsBody, IsDeadlocksText, IsDocument, IsGoing, begun_text, ceiling_awaited, cycle_data, head_text, number_items, offset_at, owner_awaited, protocol_awaited, registers_text, stop_members, stop_text, stopped_text, symbol_at, text_in, thread_data, thread_members, threads_text, type_awaited, used_text};
+ghost use Rattle.ptk_explanation.specs.Objects.{IsBody, IsDeadlocksText, IsDocument, IsGoing, begun_text, ceiling_awaited, cycle_data, head_text, number_items, offset_at, owner_awaited, protocol_awaited, registers_text, stop_members, stop_text, stopped_text, symbol_at, thread_data, thread_members, threads_text, type_awaited, used_text};
 ghost use Rattle.ptk_explanation_facts.specs.Standing.{standing_of, word_of_standing};
 ghost use Rattle.ptk_explanation_facts.specs.Stops.{said_of, stop_in};
 
@@ -17,7 +17,7 @@ use ptk_explanation_facts::{
     Awaited, History, PartStatus, REGISTERS, Stop, System, ThreadFacts, begins_cycle, cause_word,
     following, name_of, standing, thread_count,
 };
-use ptk_symbols::Symbols;
+use ptk_symbols::{Symbols, text_in};
 use ptk_words::{Cause, Cpu, Owner, PartId, ThreadNo};
 use std::alloc::{AllocError, Global};
 use std::fmt::Write;
@@ -49,16 +49,6 @@ impl<'a> Place<'a> {
             },
             None => none,
         }
-    }
-}
-
-/// A name, where it is a text.
-fn text_in(name: &[u8]) -> Option<&str>
-    ensures { option_map (λ text. text.now) result ≡ text_in name.now }
-{
-    match str::from_utf8(name) {
-        Ok(text) => Some(text),
-        Err(_) => None,
     }
 }
 

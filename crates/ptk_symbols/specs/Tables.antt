@@ -2,6 +2,7 @@
 use Rattle.std.specs.Prelude.{ℕ, ◌+◌, ◌-◌, ◌*◌, ◌^◌, Bool, false, ◌&&◌, ◌||◌, List, [], ◌∷◌, ◌++◌, length, take, drop, filter, find, ◌==◌, nat_lt, nat_le, if◌then◌else◌, Option, Some, None, option_map, option_and_then, Result, Ok, Err, codes}
 use Rattle.std.specs.Fmt.{digits}
 use Rattle.std.specs.List.{concat, list_all}
+use Rattle.std.specs.Str.{is_utf8}
 use Rattle.ptk_asm_language.specs.Lines.{raw_lines, without_ending}
 use Rattle.ptk_asm_language.specs.Tokens.{digit}
 
@@ -81,6 +82,10 @@ abbrev pub exact : List (ℕ × List ℕ) → ℕ → Option (List ℕ × ℕ)
 exact symbols a = option_map (λ s. (s.1, 0)) (find (λ s. s.0 == a) symbols)
 
 -- ---- their text
+
+-- a name, where it is a text (own)
+abbrev pub text_in : List ℕ → Option (List ℕ)
+text_in name = if is_utf8 name then Some name else None
 
 -- a distance that is not 0, in hexadecimal behind a sign (own)
 abbrev pub distance_text : ℕ → List ℕ

@@ -5,7 +5,7 @@
 //! - `read_symbols` reads the definition's table (`Tables`), or returns the number of the first line that is no symbol.
 //! - `nearest` is the symbol that begins last at or below an address, the first of the text among equals, with the
 //!   distance.
-//! - `push_name` and `push_place` append its text.
+//! - `push_name` and `push_place` append its text; `text_in` is a name, where it is a text.
 //!
 //! Below are the lines of `ptk_asm_language`; above are the disassembler and decoded traces.
 
@@ -16,5 +16,5 @@ mod table;
 
 pub use fault::SymbolFault;
 pub use lines::Symbol;
-pub use symbols::{Located, Symbols};
+pub use symbols::{Located, Symbols, text_in};
 pub use table::read_symbols;

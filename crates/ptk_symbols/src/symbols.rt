@@ -89,6 +89,16 @@ impl<'a> Symbols<'a> {
     }
 }
 
+/// A name, where it is a text.
+pub fn text_in(name: &[u8]) -> Option<&str>
+    ensures { option_map (λ text. text.now) result ≡ is.text_in name.now }
+{
+    match str::from_utf8(name) {
+        Ok(text) => Some(text),
+        Err(_) => None,
+    }
+}
+
 /// The first symbol at an address.
 fn symbol_at<'a>(symbols: &[Symbol<'a>], address: u32) -> Option<Symbol<'a>>
     ensures { shown.found_pair result ≡ find (λ s. s.0 == address) (shown.pairs symbols.now) }

@@ -1,5 +1,5 @@
-use Rattle.ptk_explanation.proofs.Documents.{text_found, text_missing}
-use Rattle.ptk_explanation.proofs.document.text_in.Goals as goal
+use Rattle.ptk_symbols.proofs.Texts.{text_found, text_missing}
+use Rattle.ptk_symbols.proofs.symbols.text_in.Goals as goal
 
 pub returns-in-Ok : goal.returns-in-Ok
 returns-in-Ok c = text_found c.args.name.now c.in-Ok.text.now c.in-Ok.ensures.cases.0 c.in-Ok.ensures.cases.1
