@@ -1,13 +1,12 @@
 -- The events of a trace, each a JSON object behind the ones before (Trace Event Format).
 use Rattle.std.specs.Prelude.{ℕ, ◌+◌, ◌-◌, List, [], ◌∷◌, ◌++◌, Bool, true, not, nat_lt, nat_le, ◌&&◌, ◌==◌, if◌then◌else◌, Option, Some, None, option_and_then, flat_map, codes, decimal}
 use Rattle.std.specs.List.{concat, enumerate_from}
-use Rattle.std.specs.Str.{is_utf8}
 use Rattle.json.specs.Print.{quoted}
 use Rattle.ptk_words.specs.declared.sections.Arrival.{Arrival}
 use Rattle.ptk_words.specs.declared.threads.Wait.{Wait}
 use Rattle.ptk_words.specs.declared.threads.Wait.TheVariants.{InputWait, SleepWait, JoinWait, MutexWait, ConditionWait, RelockWait}
 use Rattle.ptk_config.specs.Sections.{Section}
-use Rattle.ptk_symbols.specs.Tables.{nearest}
+use Rattle.ptk_symbols.specs.Tables.{nearest, text_in}
 use Rattle.ptk_main_runs.specs.PartStatus.{PartStatus}
 use Rattle.ptk_main_runs.specs.Shown.{shown_status}
 use Rattle.ptk_main_runs.specs.Told.{is_halted}
@@ -151,10 +150,6 @@ shown_text track shown since tick = if nat_lt since tick then ticks_text track s
 -- the slice of what is kept of a thread, up to a tick; nothing of a free number (own)
 unfoldable pub slice_text : Track → ShownSince → ℕ → List ℕ
 slice_text track kept tick = if is_free kept.shown.doing then [] else shown_text track kept.shown kept.since tick
-
--- a name, where it is a text (own)
-abbrev pub text_in : List ℕ → Option (List ℕ)
-text_in name = if is_utf8 name then Some name else None
 
 -- the name of a symbol, where it is a text and the symbol begins at the address and not before it (own)
 abbrev pub routine_of : List ℕ × ℕ → Option (List ℕ)

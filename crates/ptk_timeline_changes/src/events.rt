@@ -3,13 +3,13 @@
 ghost use Rattle.std.specs.Prelude.{◌≡◌, ◌+◌, ◌<◌, None, IfOk, OnOk, drop, length, option_map, string_bytes};
 ghost use Rattle.std.specs.Io.KnownBytes.{Appends};
 ghost use Rattle.json.specs.Print.{quoted};
-ghost use Rattle.ptk_timeline_changes.specs.Events.{arrival_text, before_process, change_events, comes_no_more, condition_text, doing_end, doing_text, events_head, flow_end, flow_head, flow_number, flow_text, halt_text, head_text, input_text, instant_text, mutex_text, name_text, number_text, only_number, priority_text, process_name, routine_in, section_text, shown_numbers, shown_text, slice_text, start_text, status_text, text_in, thread_track, ticks_text, track_name, until_text, wait_text, window_slice, window_text, windows_track};
+ghost use Rattle.ptk_timeline_changes.specs.Events.{arrival_text, before_process, change_events, comes_no_more, condition_text, doing_end, doing_text, events_head, flow_end, flow_head, flow_number, flow_text, halt_text, head_text, input_text, instant_text, mutex_text, name_text, number_text, only_number, priority_text, process_name, routine_in, section_text, shown_numbers, shown_text, slice_text, start_text, status_text, thread_track, ticks_text, track_name, until_text, wait_text, window_slice, window_text, windows_track};
 
 use crate::change::{Change, PARTS, ShownSince};
 use crate::shown::{Doing, Shown};
 use ptk_config::{Config, Section};
 use ptk_main_runs::{PartStatus, PutFault};
-use ptk_symbols::Symbols;
+use ptk_symbols::{Symbols, text_in};
 use ptk_words::{Arrival, MutexNo, PartId, ThreadNo, Tick, Wait};
 use std::alloc::Global;
 use std::io;
@@ -508,16 +508,6 @@ fn routine_at<'a>(symbols: &Symbols<'a>, start: Option<u32>) -> Option<&'a str>
             None
         }
         None => None,
-    }
-}
-
-/// A name, where it is a text.
-fn text_in(name: &[u8]) -> Option<&str>
-    ensures { option_map (λ text. text.now) result ≡ text_in name.now }
-{
-    match str::from_utf8(name) {
-        Ok(text) => Some(text),
-        Err(_) => None,
     }
 }
 
