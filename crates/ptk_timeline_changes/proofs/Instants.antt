@@ -5,7 +5,7 @@ use Rattle.std.specs.Io.KnownBytes.{Appends}
 use Rattle.std.proofs.KnownBytes.{Appends-nil, Appends-trans}
 use Rattle.std.proofs.Math.ListN.{drop_of_length-le}
 use Rattle.std.proofs.Math.Seq.{drop-cons}
-use Rattle.std.proofs.lemmas.Bool.{eqb-true}
+use Rattle.std.proofs.lemmas.Bool.{eqb-true, not-false, not-true}
 use Rattle.std.proofs.lemmas.List.{append_assoc}
 use Rattle.std.proofs.lemmas.List.Concat.{flat_map-cons}
 use Rattle.ptk_words.specs.declared.sections.Arrival.{Arrival}
@@ -55,21 +55,13 @@ joined_at bytes tick next n rest is =
     ap (λ (b : Bool). with_more bytes (if b then ((tick, n + 1) ∷ rest) else ((tick, 1) ∷ (next, n) ∷ rest))) is
     ∙ (ap (λ (m : ℕ). (tick, m) ∷ rest) count ∙ ap (λ (t : ℕ). (t, bytes + 1 + n) ∷ rest) (sym (eqb-true next tick is)))
 
-turned_false : (b : Bool) → not b ≡ true → b ≡ false
-turned_false true e = sym e
-turned_false false e = refl
-
-turned_true : (b : Bool) → not b ≡ false → b ≡ true
-turned_true true e = refl
-turned_true false e = sym e
-
 -- a byte that is the last of its tick
 last_at : (bytes tick : ℕ) (rest : List Arrival) → comes_no_more tick rest ≡ true → with_more bytes (one_more_at tick (input_ticks rest)) ≡ (tick, bytes + 1) ∷ input_ticks rest
 last_at bytes tick [] is = refl
 last_at bytes tick (next ∷ rest) is =
     let begun = begun_at next.tick (input_ticks rest) in
     ap (λ (ticks : List (ℕ × ℕ)). with_more bytes (one_more_at tick ticks)) begun.2
-    ∙ (alone_at bytes tick next.tick begun.0 begun.1 (turned_false (next.tick == tick) is) ∙ ap (λ (ticks : List (ℕ × ℕ)). (tick, bytes + 1) ∷ ticks) (sym begun.2))
+    ∙ (alone_at bytes tick next.tick begun.0 begun.1 (not-true (next.tick == tick) is) ∙ ap (λ (ticks : List (ℕ × ℕ)). (tick, bytes + 1) ∷ ticks) (sym begun.2))
 
 -- a byte that another of its tick follows
 more_at : (bytes tick : ℕ) (rest : List Arrival) → comes_no_more tick rest ≡ false → with_more bytes (one_more_at tick (input_ticks rest)) ≡ with_more (bytes + 1) (input_ticks rest)
@@ -77,7 +69,7 @@ more_at bytes tick [] is = cc
 more_at bytes tick (next ∷ rest) is =
     let begun = begun_at next.tick (input_ticks rest) in
     ap (λ (ticks : List (ℕ × ℕ)). with_more bytes (one_more_at tick ticks)) begun.2
-    ∙ (joined_at bytes tick next.tick begun.0 begun.1 (turned_true (next.tick == tick) is) ∙ ap (with_more (bytes + 1)) (sym begun.2))
+    ∙ (joined_at bytes tick next.tick begun.0 begun.1 (not-false (next.tick == tick) is) ∙ ap (with_more (bytes + 1)) (sym begun.2))
 
 module _ (p from to : ℕ) (input : List Arrival) where
   -- what is written so far, and the instants of the input from a place on behind this many bytes of its first tick, are all instants
