@@ -25,7 +25,7 @@ use Rattle.ptk_disasm.proofs.WordsWritten.{Writes, word-written}
 use Rattle.ptk_disasm.proofs.Steps.{raw, Stands, added}
 use Rattle.ptk_disasm.proofs.Passes.{Reaches, held-same, reaches-none, reaches-more, reaches-stated}
 
--- so many bytes in each section
+-- how many bytes each section has
 abbrev pub lens : ℕ → ℕ → ℕ → Lengths
 lens t d b = record { text = t; «data» = d; bss = b }
 

@@ -1,4 +1,4 @@
--- Numbers of so many bits, as two's complement.
+-- Numbers of n bits, as two's complement.
 use Rattle.std.proofs.Common.{◌≡◌, ℕ, ◌-◌, ◌%◌, ◌^◌, ◌<◌, Bool, true, false, ◌&&◌, refl, arith, ℤ, nat_lt}
 use Rattle.std.specs.Prelude.{nat_abs}
 use Rattle.std.proofs.lemmas.Bool.Decides.{nat_tests}

@@ -1,4 +1,4 @@
--- A cycle of waits: the walk over so many waits as there are numbers of threads finds it, and finds nothing else.
+-- A cycle of waits: a walk of one wait for each number of a thread finds it, and finds nothing else.
 use Rattle.std.proofs.Common.{◌≡◌, ℕ, Bool, false, length, sym, ◌∙◌, ap, refl}
 use Rattle.std.specs.Prelude.{◌↔◌, Option, Some, None, IsTrue}
 use Rattle.ptk_words.specs.Pools.{pool_get}
@@ -23,7 +23,7 @@ blocker_within s q v (Some thread) e n = number_of s.locks.threads q thread e
 pub blocker_bounded : (s : Part) → IsBounded (length s.locks.threads) (blocker_in s)
 blocker_bounded s = record { each = λ q v n. blocker_within s q v (pool_get s.locks.threads q) refl n }
 
--- a thread that waits for the next one is on a cycle if and only if as many waits as there are numbers lead from that one back
+-- a thread that waits for the next one is on a cycle if and only if a walk of one wait for each number leads from that one back
 pub cycle_found : (s : Part) (t v most : ℕ) → most ≡ length s.locks.threads → blocker_in s t ≡ Some v → (b : Bool) → b ≡ leads_to (blocker_in s) t most v → IsTrue b ↔ IsDeadlocked s t
 cycle_found s t v most e n b h = (
   λ is. let r : Leads (blocker_in s) v t = reaches_sound (blocker_in s) t most v (sym h ∙ is) in (r.0, chain_at-next (blocker_in s) t v r.0 n ∙ r.1),
