@@ -2,6 +2,7 @@ pub mod Parts
 pub mod RunFaults
 pub mod Refused
 pub mod Members
+pub mod Steps
 pub use Rattle.ptk_system.specs.Missing
 pub use Rattle.ptk_system.specs.World
 pub use Rattle.ptk_system.specs.Activities

@@ -12,7 +12,8 @@ use Rattle.ptk_words_model.specs.Withdrawal.{deadlines_of}
 use Rattle.ptk_main_runs.specs.Activities.{activity_in, mutex_of_activity, owner_thread}
 use Rattle.ptk_main_runs.specs.Activity.{Activity}
 use Rattle.ptk_main_runs.specs.ByThread.{least_deadline}
-use Rattle.ptk_main_runs.specs.Told.{is_halted, register_in, status_in}
+use Rattle.ptk_main_runs.specs.Steps.{step_end}
+use Rattle.ptk_main_runs.specs.Told.{register_in}
 use Rattle.ptk_main_runs.specs.World.{World, state_of}
 use Rattle.ptk_statistics_figures.specs.Doings.{is_blocked, is_ready, is_running}
 use Rattle.ptk_statistics_figures.specs.Mutexes.{new_mutex, owned_from, waited_from}
@@ -86,16 +87,9 @@ waits_looked_at is_same s at t thread mutexes = if does_the_same is_same s t thr
 abbrev pub window_end : World → ℕ → Tick → Tick
 window_end world p tick = unwrap_or ((own_ticks world.config.plan p).end_at tick) tick
 
--- the end of the step that began at a tick: the partition's next decision, at the latest the end of its window, and the tick behind where it halted (own)
-abbrev pub step_end : World → ℕ → Tick → Tick
-step_end world p tick =
-    if is_halted (status_in (state_of world p).part)
-    then capped_sum tick 1
-    else unwrap_or (option_map (min (window_end world p tick)) (state_of world p).account.next) (window_end world p tick)
-
 -- how many ticks of a run up to another tick the step takes that began at a tick (own)
 abbrev pub step_ticks : World → ℕ → Tick → Tick → ℕ
-step_ticks world p tick to = min (step_end world p tick) to - tick
+step_ticks world p tick to = min (step_end tick (window_end world p tick) (state_of world p)) to - tick
 
 -- the moment at which the step ends that began at a moment (own)
 abbrev pub step_over : World → ℕ → Moment → Tick → Moment

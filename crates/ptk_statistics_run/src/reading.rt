@@ -4,10 +4,11 @@
 ghost use Rattle.std.specs.Prelude.{◌≡◌, ◌<◌, ◌≤◌, ◌&&◌, length, not};
 ghost use Rattle.ptk_words.specs.Calls.{call_of};
 ghost use Rattle.ptk_words.specs.declared.TheConstants.{LAST_TICK};
+ghost use Rattle.ptk_main_runs.specs.Steps.{step_end};
 ghost use Rattle.ptk_main_runs.specs.World.{state_of};
 ghost use Rattle.ptk_words_laws.specs.Others.{can_act_on_others};
 ghost use Rattle.ptk_statistics_run.specs.Observations.{comes_by, has_halted, is_apart, is_late_error, is_owner_call, is_refused, is_reply_error, number_in, owner_call, pc_behind, step_at};
-ghost use Rattle.ptk_statistics_run.specs.Gathering.{is_deadline_by, is_disturbed_by, is_input_by, is_preempted_behind, last_behind, step_end, step_ticks, window_end};
+ghost use Rattle.ptk_statistics_run.specs.Gathering.{is_deadline_by, is_disturbed_by, is_input_by, is_preempted_behind, last_behind, step_ticks, window_end};
 
 use crate::doing::{has_halted, is_ready, is_timed};
 use crate::observed::{NO_WORD, OwnerCall, WORD};
@@ -274,14 +275,14 @@ pub(crate) fn step_ticks(system: &System<'_>, p: PartId, tick: u64, to: u64) -> 
 fn step_end(system: &System<'_>, p: PartId, tick: u64) -> u64
     requires partition { p < length system.now.config.sections }
     requires early { tick ≤ LAST_TICK }
-    ensures { result ≡ step_end system.now p tick }
+    ensures { result ≡ step_end tick (window_end system.now p tick) (state_of system.now p) }
 {
     if system.status(p).is_halted() {
-        return tick.saturating_add(1);
+        return tick + 1;
     }
     let end = window_end(system, p, tick);
     match system.next(p) {
-        Some(next) => end.min(next.ticks()),
+        Some(next) => next.ticks().max(tick + 1).min(end),
         None => end,
     }
 }

@@ -1,18 +1,9 @@
 -- The step that takes up a partition's ticks.
-use Rattle.std.specs.Prelude.{ℕ, ◌+◌, Bool, true, false, ◌==◌, nat_lt, min, max, if◌then◌else◌, Option, Some, None}
+use Rattle.std.specs.Prelude.{ℕ, ◌+◌, Bool, true, false, ◌==◌, nat_lt, if◌then◌else◌, Option, Some, None}
 use Rattle.ptk_words.specs.declared.sections.Entry.{Entry}
 use Rattle.ptk_words_model.specs.State.{State}
-use Rattle.ptk_main_runs.specs.Told.{is_halted, status_in}
+use Rattle.ptk_main_runs.specs.Steps.{step_end}
 use Rattle.ptk_timeline_changes.specs.declared.step.Step.{Step}
-
--- the next decision's tick, or the window's end where there is none: behind this tick, and not behind that end
-abbrev pub next_within : ℕ → ℕ → Option ℕ → ℕ
-next_within tick end None = end
-next_within tick end (Some next) = min (max next (tick + 1)) end
-
--- the tick behind a step that takes up this tick and left this state: the next decision's, within the window; a step with which the partition halts is shown for a tick (own)
-abbrev pub step_end : ℕ → ℕ → State → ℕ
-step_end tick end after = if is_halted (status_in after.part) then tick + 1 else next_within tick end after.account.next
 
 -- the thread of the last step, with the tick behind it
 abbrev pub step_by : ℕ → Option Entry → Option Step

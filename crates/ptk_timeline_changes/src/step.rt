@@ -2,9 +2,10 @@
 
 ghost use Rattle.std.specs.Prelude.{◌≡◌, ◌+◌, ◌<◌, ◌≤◌, Some, IfSome, length};
 ghost use Rattle.ptk_words.specs.declared.TheConstants.{LAST_TICK};
+ghost use Rattle.ptk_main_runs.specs.Steps.{step_end};
 ghost use Rattle.ptk_main_runs.specs.World.{state_of};
 ghost use Rattle.ptk_timeline_changes.specs.Shown.{is_step_of};
-ghost use Rattle.ptk_timeline_changes.specs.Steps.{is_step_over, step_end, step_since, step_within, tick_behind_step};
+ghost use Rattle.ptk_timeline_changes.specs.Steps.{is_step_over, step_since, step_within, tick_behind_step};
 
 use ptk_main_runs::System;
 use ptk_words::{PartId, ThreadNo};
