@@ -8,6 +8,7 @@ use Rattle.ptk_system.specs.declared.activity.Activity.{Activity}
 use Rattle.ptk_system.specs.declared.activity.Activity.TheVariants.{Free, Running, Ready, Blocked, Ended, Halted}
 use Rattle.ptk_timeline_segments.specs.declared.look.Look.{Look}
 use Rattle.ptk_timeline_segments.specs.declared.numbers.WaitNumbers.{WaitNumbers}
+use Rattle.ptk_timeline_segments.specs.Cells.{no_look}
 use Rattle.ptk_timeline_segments.specs.LookNumbers.{bit_of, numbers_of, numbers_of_activity, owner_kind, owner_number, wait_numbers}
 use Rattle.ptk_timeline_segments.specs.Shades.{place_of, shade_of}
 
@@ -35,9 +36,6 @@ owner_back zero n = None
 owner_back (suc zero) n = Some owner.Free
 owner_back (suc (suc zero)) n = Some owner.Abandoned
 owner_back (suc (suc (suc k))) n = Some (owner.OwnedBy n)
-
-abbrev no_look : Look
-no_look = record { activity = Free; owner = None; raised = None }
 
 abbrev look_back : List ℕ → Look
 look_back (place ∷ first ∷ second ∷ more ∷ last ∷ kind ∷ thread ∷ some ∷ level ∷ []) =
