@@ -7,7 +7,7 @@ use crate::statement::{Form, Section};
 use ptk_rv32i_code::{BranchTest, ImmediateOp, LoadKind, RegisterOp, ShiftOp, StoreKind};
 
 /// The directives and their forms.
-const DIRECTIVES: [(&[u8], Form); 6] = [
+static DIRECTIVES: [(&[u8], Form); 6] = [
     (b".text", Form::Within(Section::Text)),
     (b".data", Form::Within(Section::Data)),
     (b".bss", Form::Within(Section::Bss)),
@@ -17,7 +17,7 @@ const DIRECTIVES: [(&[u8], Form); 6] = [
 ];
 
 /// The calls of the environment, `fence` and the short forms.
-const SHORT_MNEMONICS: [(&[u8], Form); 11] = [
+static SHORT_MNEMONICS: [(&[u8], Form); 11] = [
     (b"ecall", Form::Ecall),
     (b"ebreak", Form::Ebreak),
     (b"fence", Form::Fence),
@@ -32,7 +32,7 @@ const SHORT_MNEMONICS: [(&[u8], Form); 11] = [
 ];
 
 /// The computations.
-const COMPUTING_MNEMONICS: [(&[u8], Form); 19] = [
+static COMPUTING_MNEMONICS: [(&[u8], Form); 19] = [
     (b"addi", Form::WithImmediate(ImmediateOp::Add)),
     (b"slti", Form::WithImmediate(ImmediateOp::Less)),
     (b"sltiu", Form::WithImmediate(ImmediateOp::LessUnsigned)),
@@ -55,7 +55,7 @@ const COMPUTING_MNEMONICS: [(&[u8], Form); 19] = [
 ];
 
 /// The loads, stores, branches, jumps and upper parts.
-const MOVING_MNEMONICS: [(&[u8], Form); 18] = [
+static MOVING_MNEMONICS: [(&[u8], Form); 18] = [
     (b"lb", Form::Load(LoadKind::Byte)),
     (b"lh", Form::Load(LoadKind::Half)),
     (b"lw", Form::Load(LoadKind::Word)),
