@@ -1,12 +1,12 @@
 -- Why a file is not read, and which images of a configuration are.
-use Rattle.std.specs.Prelude.{◌≡◌, ◌⊎◌, ℕ, List, [], Option, Some, None, Err, Any, option_copied, unwrap_or}
+use Rattle.std.specs.Prelude.{◌≡◌, ◌⊎◌, ℕ, List, [], Option, Some, None, Ok, Err, Any, option_copied, unwrap_or}
 use Rattle.std.specs.Borrow.{Bor}
 use Rattle.std.specs.declared.io.ErrorKind.{ErrorKind}
 use Rattle.std.specs.declared.io.ErrorKind.TheVariants as kind
 use Rattle.ptk_image.specs.NamedFiles.{NamedFile, content_of}
 use Rattle.ptk_symbols.specs.Tables.{table_of}
 use Rattle.ptk_config.specs.declared.fault.ConfigFault.{ConfigFault}
-use Rattle.ptk_config.specs.Configuration.{configuration_in}
+use Rattle.ptk_config.specs.Configuration.{Configuration, configuration_in}
 use Rattle.ptk_config.specs.Sections.{Section}
 use Rattle.ptk_main_faults.specs.Lines.{config_fault}
 use Rattle.ptk_main_faults.specs.Told.{text, told}
@@ -44,6 +44,10 @@ IsNamedTextFault (Some name) fault = IsTextFault name fault
 -- memory ran out, or it is the first fault of a text that states no configuration (own)
 abbrev pub IsConfigFault : List ℕ → Fault → Type 0
 IsConfigFault bytes fault = (fault ≡ NoMemory) ⊎ ((refusal : ConfigFault) × (configuration_in bytes ≡ Err refusal) × (fault ≡ config_fault refusal))
+
+-- some text states this configuration (own)
+abbrev pub IsStated : Configuration → Type 0
+IsStated config = (bytes : List ℕ) × (configuration_in bytes ≡ Ok config)
 
 -- the text of the file of this name is not read, or states no configuration (own)
 abbrev pub IsConfigFileFault : Bor (List ℕ) → Fault → Type 0

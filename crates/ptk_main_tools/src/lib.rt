@@ -5,7 +5,8 @@
 //!
 //! - The status of each outcome (`end`, `tell`), and of a command line that asks for nothing (`usage`, `unread`).
 //! - A file that is not read has the fault of the host's error, by this file's name (`bytes_in`, `text_in`).
-//! - `config_of` and `symbols_of` return what the text states, or the fault of its first refusal.
+//! - `config_of` and `symbols_of` return what the text states, or the fault of its first refusal. What `config_in`
+//!   returns is stated by some text.
 //! - The files of `images_of` are images of the sections and nothing else; its fault names one that is there.
 //! - `asm` is a usage error where two of its files have the same words. A source is done only where the definition has
 //!   its image, and refused only where it has its fault (`asm_text`).

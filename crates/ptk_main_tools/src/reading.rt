@@ -4,7 +4,7 @@ ghost use Rattle.std.specs.Prelude.{◌≡◌, ◌≢◌, ℕ, List, [], None, S
 ghost use Rattle.ptk_image.specs.NamedFiles.{content_of};
 ghost use Rattle.ptk_symbols.specs.Tables.{table_of};
 ghost use Rattle.ptk_config.specs.Configuration.{configuration_in};
-ghost use Rattle.ptk_main_tools.specs.Reading.{AreImagesOf, IsConfigFault, IsConfigFileFault, IsImageFault, IsImagesFault, IsNamedTextFault, IsReadFault, IsSymbolsFault, IsTextFault, IsUnreadFault, read_fault};
+ghost use Rattle.ptk_main_tools.specs.Reading.{AreImagesOf, IsConfigFault, IsConfigFileFault, IsImageFault, IsImagesFault, IsNamedTextFault, IsReadFault, IsStated, IsSymbolsFault, IsTextFault, IsUnreadFault, read_fault};
 
 use ptk_config::{Config, Section, read_config};
 use ptk_image::Files;
@@ -47,7 +47,8 @@ pub fn text_in<'a>(rt: &HostRuntime, name: &'a str) -> Result<String, Fault<'a>>
 
 /// The configuration in a file. A fault where the file can't be read, is no text, or states no configuration.
 pub fn config_in<'a>(rt: &HostRuntime, name: &'a str) -> Result<Config, Fault<'a>>
-    ensures { IfErr result (IsConfigFileFault name.entry) }
+    ensures stated { IfOk result IsStated }
+    ensures unread { IfErr result (IsConfigFileFault name.entry) }
 {
     let text = text_in(rt, name)?;
     config_of(rt, text.as_str())
