@@ -3,3 +3,4 @@ pub mod Statuses
 pub mod ReadFaults
 pub mod SourceFaults
 pub mod Columns
+pub mod Images

@@ -1,5 +1,5 @@
--- Why a file is not read, and which images of a configuration are.
-use Rattle.std.specs.Prelude.{◌≡◌, ◌⊎◌, ℕ, List, [], Option, Some, None, Ok, Err, Any, option_copied, unwrap_or}
+-- Why a file is not read, and what is read of the images of a configuration.
+use Rattle.std.specs.Prelude.{◌≡◌, ◌⊎◌, ◌++◌, ℕ, if◌then◌else◌, List, [], Option, Some, None, Ok, Err, All, Any, IfSome, bytes_eq, codes, option_copied, unwrap_or}
 use Rattle.std.specs.Borrow.{Bor}
 use Rattle.std.specs.declared.io.ErrorKind.{ErrorKind}
 use Rattle.std.specs.declared.io.ErrorKind.TheVariants as kind
@@ -38,6 +38,11 @@ IsTextFault name fault = (fault ≡ NotText name) ⊎ IsReadFault name fault
 abbrev pub IsNamedTextFault : Option (Bor (List ℕ)) → Fault → Type 0
 IsNamedTextFault None fault = ⊥
 IsNamedTextFault (Some name) fault = IsTextFault name fault
+
+-- the file is not there (own)
+abbrev pub IsMissing : Fault → Type 0
+IsMissing (MissingFile name) = Unit {0}
+IsMissing fault = ⊥
 
 -- ---- what a text states
 
@@ -78,3 +83,32 @@ IsImageOf sections name = Any (λ (s : Section). s.image ≡ Some name) sections
 -- the files are images of these sections and nothing else (own)
 abbrev pub AreImagesOf : List Section → List NamedFile → Type 0
 AreImagesOf sections files = (name : List ℕ) → ¬ IsImageOf sections name → content_of files name ≡ None
+
+-- ---- the images as they were read; `reads` says that the file of a path was read as these bytes, or is not there
+
+-- the path of the image of a name: behind the folder and a slash, where a folder is given (own)
+abbrev pub image_path : Option (Bor (List ℕ)) → List ℕ → List ℕ
+image_path None name = name
+image_path (Some root) name = root.now ++ (codes "/" ++ name)
+
+-- a file with these bytes is added under a name, where there are any (own)
+abbrev pub IsAdded : List ℕ → Option (List ℕ) → List NamedFile → List NamedFile → Type 0
+IsAdded name None old new = new ≡ old
+IsAdded name (Some bytes) old new = (other : List ℕ) → content_of new other ≡ (if bytes_eq name other then Some bytes else content_of old other)
+
+-- the image of this name is added as it is read, where one is named (own)
+abbrev pub IsImageAdded : (List ℕ → Option (List ℕ) → Type 0) → Option (Bor (List ℕ)) → Option (List ℕ) → List NamedFile → List NamedFile → Type 0
+IsImageAdded reads root None old new = new ≡ old
+IsImageAdded reads root (Some name) old new = (bytes : Option (List ℕ)) × reads (image_path root name) bytes × IsAdded name bytes old new
+
+-- each of the files was read so, by its path (own)
+abbrev pub AreAsRead : (List ℕ → Option (List ℕ) → Type 0) → Option (Bor (List ℕ)) → List NamedFile → Type 0
+AreAsRead reads root files = (name : List ℕ) → IfSome (content_of files name) (λ bytes. reads (image_path root name) (Some bytes))
+
+-- an image that is not one of the files was not there (own)
+abbrev pub IsThere : (List ℕ → Option (List ℕ) → Type 0) → Option (Bor (List ℕ)) → List NamedFile → Option (List ℕ) → Type 0
+IsThere reads root files image = (name : List ℕ) → image ≡ Some name → content_of files name ≡ None → reads (image_path root name) None
+
+-- so it is with the image of each of these sections (own)
+abbrev pub AreThere : (List ℕ → Option (List ℕ) → Type 0) → Option (Bor (List ℕ)) → List Section → List NamedFile → Type 0
+AreThere reads root sections files = All (λ (s : Section). IsThere reads root files s.image) sections

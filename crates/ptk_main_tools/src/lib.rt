@@ -4,10 +4,12 @@
 //! what it says of an outcome, `asm` and `disasm`.
 //!
 //! - The status of each outcome (`end`, `tell`), and of a command line that asks for nothing (`usage`, `unread`).
-//! - A file that is not read has the fault of the host's error, by this file's name (`bytes_in`, `text_in`).
+//! - A file that is not read has the fault of the host's error, by this file's name (`bytes_in`, `text_in`). A text is
+//!   the bytes of its file (`text_from`).
 //! - `config_of` and `symbols_of` return what the text states, or the fault of its first refusal. What `config_in`
 //!   returns is stated by some text.
-//! - The files of `images_of` are images of the sections and nothing else; its fault names one that is there.
+//! - The files of `images_of` are images of the sections and nothing else; its fault names one that is there. Each has
+//!   the bytes that its path was read as, and an image that is left out was not there (`images_by`).
 //! - `asm` is a usage error where two of its files have the same words. A source is done only where the definition has
 //!   its image, and refused only where it has its fault (`asm_text`).
 //! - `put_place` writes the definition's line (`refusal_line`): the line, the column and the piece of a source, and why
@@ -23,6 +25,7 @@
 
 mod assembling;
 mod disassembling;
+mod files;
 mod reading;
 mod telling;
 

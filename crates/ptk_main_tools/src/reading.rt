@@ -1,15 +1,17 @@
 //! The files that the program reads.
 
-ghost use Rattle.std.specs.Prelude.{◌≡◌, ◌≢◌, ℕ, List, [], None, Some, Ok, IfErr, IfOk, string_bytes};
+ghost use Rattle.std.specs.Prelude.{◌≡◌, ◌≢◌, ℕ, List, [], None, Some, Ok, IfErr, IfOk, IsOk, IsUtf8, OnOk, option_map, string_bytes};
 ghost use Rattle.ptk_image.specs.NamedFiles.{content_of};
 ghost use Rattle.ptk_symbols.specs.Tables.{table_of};
 ghost use Rattle.ptk_config.specs.Configuration.{configuration_in};
-ghost use Rattle.ptk_main_tools.specs.Reading.{AreImagesOf, IsConfigFault, IsConfigFileFault, IsImageFault, IsImagesFault, IsNamedTextFault, IsReadFault, IsStated, IsSymbolsFault, IsTextFault, IsUnreadFault, read_fault};
+ghost use Rattle.ptk_main_tools.specs.Reading.{AreAsRead, AreImagesOf, AreThere, IsConfigFault, IsConfigFileFault, IsImageAdded, IsImageFault, IsImagesFault, IsNamedTextFault, IsReadFault, IsStated, IsSymbolsFault, IsTextFault, IsUnreadFault, image_path, read_fault};
 
+use crate::files::{FileReader, HostFiles};
 use ptk_config::{Config, Section, read_config};
 use ptk_image::Files;
 use ptk_main_faults::Fault;
 use ptk_symbols::{SymbolFault, Symbols, read_symbols};
+use std::alloc::Global;
 use std::{fs, io};
 
 /// The bytes of a file. A fault where it is not there, can't be read, or memory ran out. A path through a file is one
@@ -39,6 +41,15 @@ pub fn text_in<'a>(rt: &HostRuntime, name: &'a str) -> Result<String, Fault<'a>>
     ensures { IfErr result (IsTextFault name.entry) }
 {
     let bytes = bytes_in(rt, name)?;
+    text_from(name, bytes)
+}
+
+// The text that the bytes of the file of this name are. A fault where they are none.
+fn text_from<'a>(name: &'a str, bytes: Vec<u8>) -> Result<String, Fault<'a>>
+    ensures text { IfOk result (λ text. string_bytes text ≡ bytes.items) }
+    ensures whole { IsUtf8 bytes.items → IsOk result }
+    ensures refused { IfErr result (λ fault. fault ≡ Fault.NotText name.entry) }
+{
     match String::from_utf8(bytes) {
         Ok(text) => Ok(text),
         Err(_) => Err(Fault::NotText(name)),
@@ -103,41 +114,60 @@ pub fn images_of<'a>(
     ensures named { IfOk result (AreImagesOf config.now.sections) }
     ensures unread { IfErr result (IsImagesFault config.now.sections) }
 {
-    let mut files = Files::new(rt.alloc());
+    images_by(&HostFiles::of(rt), rt.alloc(), config, root)
+}
+
+// The images that the sections name, each as this reader has it.
+fn images_by<'a, R: FileReader>(
+    reader: &R,
+    alloc: Global,
+    config: &'a Config,
+    root: Option<&str>,
+) -> Result<Files, Fault<'a>>
+    ensures named { IfOk result (AreImagesOf config.now.sections) }
+    ensures read { IfOk result (AreAsRead (R.reads reader.now) root.entry) }
+    ensures there { IfOk result (AreThere (R.reads reader.now) root.entry config.now.sections) }
+    ensures unread { IfErr result (IsImagesFault config.now.sections) }
+{
+    let mut files = Files::new(alloc);
     let sections = config.sections();
     for section in sections {
-        add_image_of(rt, &mut files, section, root)?;
+        add_image_of(reader, alloc, &mut files, section, root)?;
     }
     Ok(files)
 }
 
 // Adds the image that a section names, if it names one.
-fn add_image_of<'a>(
-    rt: &HostRuntime,
+fn add_image_of<'a, R: FileReader>(
+    reader: &R,
+    alloc: Global,
     files: &mut Files,
     section: &'a Section,
     root: Option<&str>,
 ) -> Result<(), Fault<'a>>
+    ensures added { OnOk result (IsImageAdded (R.reads reader.now) root.entry section.now.image files.old files.new) }
     ensures others { (other : List ℕ) → section.now.image ≢ Some other → content_of files.new other ≡ content_of files.old other }
     ensures unread { IfErr result (IsImageFault section.now.image) }
 {
     match section.image() {
-        Some(name) => add_image(rt, files, name, root),
+        Some(name) => add_image(reader, alloc, files, name, root),
         None => Ok(()),
     }
 }
 
 // Adds the file of this name, where it is there.
-fn add_image<'a>(
-    rt: &HostRuntime,
+fn add_image<'a, R: FileReader>(
+    reader: &R,
+    alloc: Global,
     files: &mut Files,
     name: &'a str,
     root: Option<&str>,
 ) -> Result<(), Fault<'a>>
+    ensures added { OnOk result (IsImageAdded (R.reads reader.now) root.entry (Some name.now) files.old files.new) }
     ensures others { (other : List ℕ) → name.now ≢ other → content_of files.new other ≡ content_of files.old other }
     ensures unread { IfErr result (IsUnreadFault name.entry) }
 {
-    match image_bytes(rt, name, root) {
+    match image_bytes(reader, alloc, name, root) {
         Ok(Some(bytes)) => Ok(files.add(name, &bytes)?),
         Ok(None) => Ok(()),
         Err(fault) => Err(fault),
@@ -145,25 +175,32 @@ fn add_image<'a>(
 }
 
 // The bytes of the image of this name, None where it is not there.
-fn image_bytes<'a>(
-    rt: &HostRuntime,
+fn image_bytes<'a, R: FileReader>(
+    reader: &R,
+    alloc: Global,
     name: &'a str,
     root: Option<&str>,
 ) -> Result<Option<Vec<u8>>, Fault<'a>>
-    ensures { IfErr result (IsUnreadFault name.entry) }
+    ensures read { IfOk result (λ bytes. R.reads reader.now (image_path root.entry name.now) (option_map (λ b. b.items) bytes)) }
+    ensures unread { IfErr result (IsUnreadFault name.entry) }
 {
     let Some(root) = root else {
-        return bytes_at(rt, name, name);
+        return bytes_at(reader, name, name);
     };
-    let path = format!(in rt.alloc(); "{root}/{name}")?;
-    bytes_at(rt, name, path.as_str())
+    let path = format!(in alloc; "{root}/{name}")?;
+    bytes_at(reader, name, path.as_str())
 }
 
 // The bytes of the image of this name, whose file has this path, None where it is not there.
-fn bytes_at<'a>(rt: &HostRuntime, name: &'a str, path: &str) -> Result<Option<Vec<u8>>, Fault<'a>>
-    ensures { IfErr result (IsUnreadFault name.entry) }
+fn bytes_at<'a, R: FileReader>(
+    reader: &R,
+    name: &'a str,
+    path: &str,
+) -> Result<Option<Vec<u8>>, Fault<'a>>
+    ensures read { IfOk result (λ bytes. R.reads reader.now path.now (option_map (λ b. b.items) bytes)) }
+    ensures unread { IfErr result (IsUnreadFault name.entry) }
 {
-    match bytes_in(rt, path) {
+    match reader.read_file(path) {
         Ok(bytes) => Ok(Some(bytes)),
         Err(Fault::MissingFile(_)) => Ok(None),
         Err(Fault::NoMemory) => Err(Fault::NoMemory),
