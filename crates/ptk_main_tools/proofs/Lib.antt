@@ -3,4 +3,5 @@ pub mod Statuses
 pub mod ReadFaults
 pub mod SourceFaults
 pub mod Columns
+pub mod Ends
 pub mod Images

@@ -58,6 +58,12 @@ IsStated config = (bytes : List ℕ) × (configuration_in bytes ≡ Ok config)
 abbrev pub IsConfigFileFault : Bor (List ℕ) → Fault → Type 0
 IsConfigFileFault name fault = IsTextFault name fault ⊎ ((bytes : List ℕ) × IsConfigFault bytes fault)
 
+-- the symbols are those of a text, of an empty one where no file is named (own)
+pub record AreSymbolsOf (name : Option (Bor (List ℕ))) (symbols : List (ℕ × List ℕ)) : Type 0 where
+  pub bytes : List ℕ
+  pub unnamed : name ≡ None → bytes ≡ []
+  pub table : table_of bytes ≡ Ok symbols
+
 -- memory ran out, or it is the first line of a text that is no symbol, by the name of the file, where one is named (own)
 abbrev pub IsSymbolsFault : Option (Bor (List ℕ)) → List ℕ → Fault → Type 0
 IsSymbolsFault name bytes fault = (fault ≡ NoMemory) ⊎ ((line : ℕ) × (table_of bytes ≡ Err line) × (told fault ≡ Symbols (text (unwrap_or (option_copied name) [])) line))

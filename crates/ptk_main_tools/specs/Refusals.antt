@@ -10,12 +10,16 @@ use Rattle.ptk_main_line.specs.declared.requests.DisasmOptions.{DisasmOptions}
 use Rattle.ptk_main_faults.specs.Lines.{image_fault}
 use Rattle.ptk_main_faults.specs.declared.fault.Fault.{Fault}
 use Rattle.ptk_main_faults.specs.declared.fault.Fault.TheVariants.{TooLong, WriteFailed, NoMemory}
-use Rattle.ptk_main_tools.specs.Reading.{IsReadFault, IsSymbolsFileFault}
+use Rattle.ptk_main_tools.specs.Reading.{IsReadFault, IsSymbolsFault, IsSymbolsFileFault}
 
 -- the fault of a file of this name with this outcome of its bytes: of what is no image its refusal; of an image that a section is longer than a source may have it, or that memory ran out (own)
 abbrev pub HasNoSource : Bor (List ℕ) → Result ImageParts ImageFault → Fault → Type 0
 HasNoSource name (Err refusal) fault = fault ≡ image_fault name refusal
 HasNoSource name (Ok image) fault = (fault ≡ NoMemory) ⊎ ((section : Section) × IsRefused image (disasm.TooLong section) × (fault ≡ TooLong name section))
+
+-- the symbols in this text or the image that these bytes are have no text, or that can't be written (own)
+abbrev pub IsImageTextFault : DisasmOptions → List ℕ → List ℕ → Fault → Type 0
+IsImageTextFault options bytes names fault = (fault ≡ WriteFailed) ⊎ (IsSymbolsFault options.symbols names fault ⊎ HasNoSource options.image (image_of bytes) fault)
 
 -- the text can't be written; the image or the symbols are not read; or there are bytes for which it is the fault of what has no source (own)
 abbrev pub IsDisasmFault : DisasmOptions → Fault → Type 0

@@ -1,11 +1,13 @@
 //! `disasm`: the assembler text of an image.
 
-ghost use Rattle.std.specs.Prelude.{◌≡◌, Ok, IfOk, IfErr, string_bytes};
+ghost use Rattle.std.specs.Prelude.{◌≡◌, ◌≢◌, Ok, IfOk, IfErr, OnOk, string_bytes};
+ghost use Rattle.std.specs.Io.KnownBytes.{Appends};
 ghost use Rattle.ptk_words.specs.Image.{ImageParts, image_of};
 ghost use Rattle.ptk_asm_language.specs.Source.{source};
-ghost use Rattle.ptk_main_tools.specs.Refusals.{HasNoSource, IsDisasmFault};
+ghost use Rattle.ptk_main_tools.specs.Refusals.{HasNoSource, IsDisasmFault, IsImageTextFault};
+ghost use Rattle.ptk_main_tools.specs.Written.{IsDisassembled, IsShown, IsTextOf, WritesSource, WritesText};
 
-use crate::assembling::put_bytes;
+use crate::files::{FileWriter, HostFiles};
 use crate::reading::{bytes_in, symbols_of, symbols_text_in};
 use ptk_disasm::{DisasmFault, disassemble_with};
 use ptk_image::read_image;
@@ -16,33 +18,71 @@ use std::alloc::Global;
 use std::io::Write;
 
 /// The text of the image in a file, with the names of the symbols in another where one is named, into a third file, or
-/// to standard output where none is named. Nothing is written where the image or the symbols are refused. A fault where
-/// a file can't be read, the image or a symbol is refused, memory ran out, or the text can't be written.
-pub fn disasm<'a>(rt: &HostRuntime, options: DisasmOptions<'a>) -> Result<(), Fault<'a>>
-    ensures { IfErr result (IsDisasmFault options.entry) }
+/// to `out` where none is named. Nothing is written where the image or the symbols are refused. A fault where a file
+/// can't be read, the image or a symbol is refused, memory ran out, or the text can't be written.
+pub fn disasm<'a, W: Write>(
+    rt: &HostRuntime,
+    options: DisasmOptions<'a>,
+    out: &mut W,
+) -> Result<(), Fault<'a>>
+    ensures done { OnOk result (IsDisassembled options.entry (W.contents out.old) (W.contents out.new)) }
+    ensures silent { IfErr result (λ fault. fault ≢ Fault.WriteFailed → out.new ≡ out.old) }
+    ensures refused { IfErr result (IsDisasmFault options.entry) }
 {
     let bytes = bytes_in(rt, options.image)?;
     let names = symbols_text_in(rt, options.symbols)?;
-    let symbols = symbols_of(rt, options.symbols, names.as_str())?;
-    let text = text_of(rt.alloc(), options.image, bytes.as_slice(), &symbols)?;
-    match options.target {
-        Some(file) => put_bytes(rt, text.as_bytes(), file),
-        None => put_shown(rt, text.as_bytes()),
+    let files = &mut HostFiles::of(rt);
+    put_source(rt, options, bytes.as_slice(), names.as_str(), files, out)
+}
+
+// Writes the text of the image that these bytes are, with the names of the symbols in this text.
+fn put_source<'a, F: FileWriter, W: Write>(
+    rt: &HostRuntime,
+    options: DisasmOptions<'a>,
+    bytes: &[u8],
+    names: &str,
+    files: &mut F,
+    out: &mut W,
+) -> Result<(), Fault<'a>>
+    ensures written { OnOk result (WritesSource F.writes options.entry bytes.now names.now files.old files.new (W.contents out.old) (W.contents out.new)) }
+    ensures silent { IfErr result (λ fault. fault ≢ Fault.WriteFailed → (files.new ≡ files.old) × (out.new ≡ out.old)) }
+    ensures refused { IfErr result (IsImageTextFault options.entry bytes.now names.now) }
+{
+    let symbols = symbols_of(rt, options.symbols, names)?;
+    let text = text_of(rt.alloc(), options.image, bytes, &symbols)?;
+    put_text(options.target, text.as_bytes(), files, out)
+}
+
+// Writes a text into a file, or to `out` where none is named.
+fn put_text<F: FileWriter, W: Write>(
+    target: Option<&str>,
+    text: &[u8],
+    files: &mut F,
+    out: &mut W,
+) -> Result<(), Fault<'static>>
+    ensures file { OnOk result (WritesText F.writes target.entry text.now files.old files.new) }
+    ensures shown { OnOk result (IsShown target.entry text.now (W.contents out.old) (W.contents out.new)) }
+    ensures failed { IfErr result (λ fault. fault ≡ Fault.WriteFailed) }
+{
+    match target {
+        Some(name) => files.write_file(name, text),
+        None => put_shown(text, out),
     }
 }
 
-// Writes bytes to standard output.
-fn put_shown(rt: &HostRuntime, bytes: &[u8]) -> Result<(), Fault<'static>>
-    ensures { IfErr result (λ fault. fault ≡ Fault.WriteFailed) }
+// Writes bytes to `out`.
+fn put_shown<W: Write>(bytes: &[u8], out: &mut W) -> Result<(), Fault<'static>>
+    ensures shown { OnOk result (Appends (W.contents out.old) (W.contents out.new) bytes.now) }
+    ensures failed { IfErr result (λ fault. fault ≡ Fault.WriteFailed) }
 {
-    match rt.stdout().write_all(bytes) {
+    match out.write_all(bytes) {
         Ok(()) => Ok(()),
         Err(_) => Err(Fault::WriteFailed),
     }
 }
 
-/// The text of the image that these bytes are, by the name of its file: the assembler makes this image of it. A fault
-/// where they are no image, a section is longer than a source may have it, or memory ran out.
+// The text of the image that these bytes are, by the name of its file: the assembler makes this image of it. A fault
+// where they are no image, a section is longer than a source may have it, or memory ran out.
 fn text_of<'a>(
     alloc: Global,
     name: &'a str,
@@ -50,6 +90,7 @@ fn text_of<'a>(
     symbols: &Symbols<'_>,
 ) -> Result<String, Fault<'a>>
     ensures text { IfOk result (λ text. (image : ImageParts) × (image_of bytes.now ≡ Ok image) × (source (string_bytes text) ≡ Ok image)) }
+    ensures named { IfOk result (λ text. IsTextOf bytes.now symbols.now (string_bytes text)) }
     ensures refused { IfErr result (λ fault. HasNoSource name.entry (image_of bytes.now) fault) }
 {
     let image = match read_image(alloc, bytes) {

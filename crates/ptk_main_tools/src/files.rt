@@ -1,10 +1,11 @@
 //! The files of the host.
 
-ghost use Rattle.std.specs.Prelude.{ℕ, List, Option, None, Some, IfErr, IfOk};
+ghost use Rattle.std.specs.Prelude.{◌≡◌, ℕ, List, Option, None, Some, IfErr, IfOk, OnOk};
 ghost use Rattle.ptk_main_tools.specs.Reading.{IsMissing, IsReadFault};
 
 use crate::reading::bytes_in;
 use ptk_main_faults::Fault;
+use std::fs;
 
 /// Who reads files.
 pub(crate) trait FileReader {
@@ -16,6 +17,18 @@ pub(crate) trait FileReader {
         ensures read { IfOk result (λ bytes. reads self.now path.now (Some bytes.items)) }
         ensures missing { IfErr result (λ fault. IsMissing fault → reads self.now path.now None) }
         ensures unread { IfErr result (IsReadFault path.entry) };
+}
+
+/// Who writes files.
+pub(crate) trait FileWriter {
+    /// What the writing of a file changes: who writes before it, the file's name, its bytes, and who writes then. The
+    /// default says nothing.
+    ghost writes: { Self → List ℕ → List ℕ → Self → Type 0 } = { λ _ _ _ _. Unit {0} };
+
+    /// Makes the file of this name anew, with these bytes. A fault where it can't be written.
+    fn write_file(&mut self, name: &str, bytes: &[u8]) -> Result<(), Fault<'static>>
+        ensures written { OnOk result (writes self.old name.now bytes.now self.new) }
+        ensures failed { IfErr result (λ fault. fault ≡ Fault.WriteFailed) };
 }
 
 /// The host's files.
@@ -34,5 +47,14 @@ impl<'r> HostFiles<'r> {
 impl FileReader for HostFiles<'_> {
     fn read_file<'a>(&self, path: &'a str) -> Result<Vec<u8>, Fault<'a>> {
         bytes_in(self.rt, path)
+    }
+}
+
+impl FileWriter for HostFiles<'_> {
+    fn write_file(&mut self, name: &str, bytes: &[u8]) -> Result<(), Fault<'static>> {
+        match fs::write(self.rt, name, bytes) {
+            Ok(()) => Ok(()),
+            Err(_) => Err(Fault::WriteFailed),
+        }
     }
 }

@@ -14,9 +14,10 @@
 //!   its image, and refused only where it has its fault (`asm_text`).
 //! - `put_place` writes the definition's line (`refusal_line`): the line, the column and the piece of a source, and why
 //!   it is refused.
-//! - The text of a disassembly is a source of the image that the file's bytes are, and of bytes that are no image the
-//!   fault is that of the format (`text_of`).
-//! - Which files it reads is tested; which stream gets what is neither proved nor tested.
+//! - `disasm` is done only where the text of an image with the names of the symbols was written, which is the
+//!   definition's (`disassembled_with`) and a source of that image; of bytes that are no image the fault is that of the
+//!   format (`text_of`). Where it fails before, nothing is written.
+//! - Which files of the host it reads and writes is tested; which stream gets what is neither proved nor tested.
 //!
 //! Below are the command line (`ptk_main_line`), the lines of faults (`ptk_main_faults`), the configuration
 //! (`ptk_config`), the assembler (`ptk_asm`), the way back (`ptk_disasm`) and tables of symbols (`ptk_symbols`); above

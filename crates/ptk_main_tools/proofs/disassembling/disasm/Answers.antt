@@ -1,8 +1,12 @@
-use Rattle.std.proofs.Common.{inr}
-use Rattle.std.proofs.lemmas.Result.{err_from_is_err_and}
+use Rattle.std.proofs.Common.{◌∙◌}
+use Rattle.std.proofs.lemmas.Result.{IfErr-weaker}
+use Rattle.ptk_main_tools.proofs.Ends.{disassembled_by, text_refused}
 use Rattle.ptk_main_tools.proofs.disassembling.disasm.Goals as goal
 
-pub returns-in_err-text : goal.returns-in_err-text
-returns-in_err-text c =
-    let passed = err_from_is_err_and c.from_residual-in_err-text.result c.from_residual-in_err-text.ensures.1 in
-    rw (passed.1, passed.2) (inr (inr (inr (c.as_slice.result.now, c.in_err-text.ensures.refused))))
+pub returns-clause-done : goal.returns-clause-done
+returns-clause-done g c =
+    disassembled_by _ c.args.options c.as_slice.result.now c.as_str.result.now _ _ _ _ c.put_source.result (λ none. c.as_str.ensures.value ∙ c.in_ok-names.ensures.none none) c.put_source.ensures.written
+
+pub returns-clause-refused : goal.returns-clause-refused
+returns-clause-refused g c =
+    IfErr-weaker c.put_source.result _ _ (λ fault refused. text_refused c.args.options c.as_slice.result.now c.as_str.result.now fault refused) c.put_source.ensures.refused
