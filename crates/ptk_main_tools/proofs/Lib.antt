@@ -1,5 +1,4 @@
 pub mod Refusals
-pub mod Statuses
 pub mod ReadFaults
 pub mod SourceFaults
 pub mod Columns

@@ -1,12 +1,31 @@
--- What `disasm` writes. `writes` is what the writing of a file changes: who writes before it, the file's name, its bytes, and who writes then.
+-- What `asm` and `disasm` write. `writes` is what the writing of a file changes: who writes before it, the file's name, its bytes, and who writes then.
 use Rattle.std.specs.Prelude.{◌≡◌, ℕ, List, Option, Some, None, Ok}
 use Rattle.std.specs.Borrow.{Bor}
 use Rattle.std.specs.Io.KnownBytes.{Appends}
-use Rattle.ptk_words.specs.Image.{ImageParts, image_of}
+use Rattle.ptk_words.specs.Image.{ImageParts, image_bytes, image_of}
+use Rattle.ptk_asm.specs.Symbols.{IsLabelTable}
+use Rattle.ptk_asm_language.specs.Source as definition
 use Rattle.ptk_symbols.specs.Tables.{table_of}
 use Rattle.ptk_disasm.specs.Disassembly.{disassembled_with, names_of}
+use Rattle.ptk_main_line.specs.declared.requests.AsmOptions.{AsmOptions}
 use Rattle.ptk_main_line.specs.declared.requests.DisasmOptions.{DisasmOptions}
 use Rattle.ptk_main_tools.specs.Reading.{AreSymbolsOf}
+
+-- ---- an image and its labels
+
+-- the labels of a source are written into a file, where one is named (own)
+abbrev pub WritesLabels : {F : Type 0} → (F → List ℕ → List ℕ → F → Type 0) → Option (Bor (List ℕ)) → List ℕ → F → F → Type 0
+WritesLabels writes None source old new = new ≡ old
+WritesLabels writes (Some name) source old new = (table : List ℕ) × IsLabelTable source table × writes old name.now table new
+
+-- the labels of a source are written, where that is asked for, and then this image (own)
+abbrev pub WritesFiles : {F : Type 0} → (F → List ℕ → List ℕ → F → Type 0) → AsmOptions → List ℕ → ImageParts → F → F → Type 0
+WritesFiles {F} writes options source image old new =
+    (between : F) × WritesLabels writes options.symbols source old between × writes between options.image.now (image_bytes image) new
+
+-- the source has an image, and that is written, with the labels where that is asked for (own)
+abbrev pub IsAssembled : {F : Type 0} → (F → List ℕ → List ℕ → F → Type 0) → AsmOptions → List ℕ → F → F → Type 0
+IsAssembled writes options source old new = (image : ImageParts) × (definition.source source ≡ Ok image) × WritesFiles writes options source image old new
 
 -- ---- the text of an image
 

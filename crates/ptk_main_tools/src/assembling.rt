@@ -1,16 +1,20 @@
 //! `asm`: the image of a source.
 
-ghost use Rattle.std.specs.Prelude.{◌≡◌, ◌+◌, ◌<◌, ◌==◌, if◌then◌else◌, IfErr, IsErr, IsOk, IsTrue, OnOk};
+ghost use Rattle.std.specs.Prelude.{◌≡◌, ℕ, ◌+◌, ◌<◌, ◌==◌, if◌then◌else◌, List, IfErr, IsErr, IsTrue, OnOk};
 ghost use Rattle.std.specs.List.{list_all};
 ghost use Rattle.std.specs.Io.KnownBytes.{Appends};
+ghost use Rattle.ptk_words.specs.Image.{image_bytes};
+ghost use Rattle.ptk_asm.specs.Symbols.{IsLabelTable};
 ghost use Rattle.ptk_asm_language.specs.Source as definition;
 ghost use Rattle.ptk_main_faults.specs.HostFaults.{IsHostFault};
 ghost use Rattle.ptk_main_faults.specs.Lines.{status_of};
 ghost use Rattle.ptk_main_faults.specs.Statuses.{status_number};
-ghost use Rattle.ptk_main_faults.specs.declared.status.ExitStatus.TheVariants.{Done, Refused};
+ghost use Rattle.ptk_main_tools.specs.Ends.{IsAsmEnd, IsEndStatus};
 ghost use Rattle.ptk_main_tools.specs.Sources.{AreMixed, IsAsmFault, column_of, is_printable, is_shown, piece_of, piece_text, reason_words, refusal_line, source_fault, spot_text};
 ghost use Rattle.ptk_main_tools.specs.Usage.{IsUsageStatus};
+ghost use Rattle.ptk_main_tools.specs.Written.{IsAssembled, WritesFiles};
 
+use crate::files::{FileWriter, HostFiles};
 use crate::reading::text_in;
 use crate::telling::{end, tell, usage};
 use ptk_asm::{AsmFault, assemble, label_table};
@@ -18,6 +22,7 @@ use ptk_asm_language::FaultKind;
 use ptk_image::{Image, write_image};
 use ptk_main_faults::Fault;
 use ptk_main_line::{AsmOptions, one_file};
+use std::alloc::Global;
 use std::io::Write;
 use std::{fs, io};
 
@@ -28,13 +33,13 @@ const MOST_SHOWN: usize = 32;
 /// status. Nothing is written where the source is refused, or two of the files are one. The labels are written first:
 /// where the image can't be written then, the labels stand.
 pub fn asm(rt: &HostRuntime, options: AsmOptions<'_>) -> u8
-    ensures { AreMixed options.entry → IsUsageStatus result }
+    ensures { IsAsmEnd options.entry result }
 {
     if are_mixed(rt, options) {
         return refuse_mixed(rt);
     }
     match text_in(rt, options.source) {
-        Ok(text) => asm_text(rt, text.as_str(), options),
+        Ok(text) => asm_text(rt, text.as_str(), options, &mut HostFiles::of(rt)),
         Err(fault) => tell(rt, &fault),
     }
 }
@@ -78,58 +83,67 @@ fn is_one_file(rt: &HostRuntime, source: &str, image: &str) -> bool
     }
 }
 
-// Writes the image of a text, and its labels.
-fn asm_text(rt: &HostRuntime, text: &str, options: AsmOptions<'_>) -> u8
-    ensures done { result ≡ status_number Done → IsOk (definition.source text.now) }
-    ensures refused { result ≡ status_number Refused → IsErr (definition.source text.now) }
+// Writes the image of a text, and its labels. Nothing is written where the text is refused.
+fn asm_text<F: FileWriter>(
+    rt: &HostRuntime,
+    text: &str,
+    options: AsmOptions<'_>,
+    files: &mut F,
+) -> u8
+    ensures status { IsEndStatus (IsAssembled F.writes options.entry text.now files.old files.new) (IsAsmFault text.now) result }
+    ensures silent { IsErr (definition.source text.now) → files.new ≡ files.old }
 {
     match assemble(rt.alloc(), text) {
-        Ok(image) => end(rt, put_files(rt, text, &image, options)),
+        Ok(image) => end(rt, put_files(rt.alloc(), text, &image, options, files)),
         Err(fault) => refused(rt, text, options.explain, &fault),
     }
 }
 
 // Writes the labels of a text into their file, where one is named, and then its image.
-fn put_files(
-    rt: &HostRuntime,
+fn put_files<F: FileWriter>(
+    alloc: Global,
     text: &str,
     image: &Image,
     options: AsmOptions<'_>,
+    files: &mut F,
 ) -> Result<(), Fault<'static>>
-    ensures { IfErr result (IsAsmFault text.now) }
+    ensures written { OnOk result (WritesFiles F.writes options.entry text.now image.now files.old files.new) }
+    ensures failed { IfErr result (IsAsmFault text.now) }
 {
     if let Some(target) = options.symbols {
-        put_labels(rt, text, target)?;
+        put_labels(alloc, text, target, files)?;
     }
-    put_image(rt, image, options.image)
+    put_image(alloc, image, options.image, files)
 }
 
 // Writes the labels of a text into a file.
-fn put_labels(rt: &HostRuntime, text: &str, target: &str) -> Result<(), Fault<'static>>
-    ensures { IfErr result (IsAsmFault text.now) }
+fn put_labels<F: FileWriter>(
+    alloc: Global,
+    text: &str,
+    target: &str,
+    files: &mut F,
+) -> Result<(), Fault<'static>>
+    ensures written { OnOk result ((table : List ℕ) × IsLabelTable text.now table × F.writes files.old target.now table files.new) }
+    ensures failed { IfErr result (IsAsmFault text.now) }
 {
-    match label_table(rt.alloc(), text) {
-        Ok(table) => put_bytes(rt, table.as_bytes(), target),
+    match label_table(alloc, text) {
+        Ok(table) => files.write_file(target, table.as_bytes()),
         Err(fault) => Err(fault_of(&fault)),
     }
 }
 
 // Writes an image into a file.
-fn put_image(rt: &HostRuntime, image: &Image, target: &str) -> Result<(), Fault<'static>>
-    ensures { IfErr result IsHostFault }
+fn put_image<F: FileWriter>(
+    alloc: Global,
+    image: &Image,
+    target: &str,
+    files: &mut F,
+) -> Result<(), Fault<'static>>
+    ensures written { OnOk result (F.writes files.old target.now (image_bytes image.now) files.new) }
+    ensures failed { IfErr result IsHostFault }
 {
-    let bytes = write_image(rt.alloc(), image)?;
-    put_bytes(rt, bytes.as_slice(), target)
-}
-
-// Writes bytes into a file.
-pub(crate) fn put_bytes(rt: &HostRuntime, bytes: &[u8], target: &str) -> Result<(), Fault<'static>>
-    ensures { IfErr result (λ fault. fault ≡ Fault.WriteFailed) }
-{
-    match fs::write(rt, target, bytes) {
-        Ok(()) => Ok(()),
-        Err(_) => Err(Fault::WriteFailed),
-    }
+    let bytes = write_image(alloc, image)?;
+    files.write_file(target, bytes.as_slice())
 }
 
 // The fault of a refused source.

@@ -11,7 +11,8 @@
 //! - The files of `images_of` are images of the sections and nothing else; its fault names one that is there. Each has
 //!   the bytes that its path was read as, and an image that is left out was not there (`images_by`).
 //! - `asm` is a usage error where two of its files have the same words. A source is done only where the definition has
-//!   its image, and refused only where it has its fault (`asm_text`).
+//!   its image, and else the status is that of its own fault, or of memory or writing (`asm`). Its labels and then its
+//!   image are what is written, each into its file, and nothing where it is refused (`asm_text`).
 //! - `put_place` writes the definition's line (`refusal_line`): the line, the column and the piece of a source, and why
 //!   it is refused.
 //! - `disasm` is done only where the text of an image with the names of the symbols was written, which is the
