@@ -1,12 +1,12 @@
 -- The files of a source, where it is refused and what is there, and the faults of what is written of it.
-use Rattle.std.specs.Prelude.{◌≡◌, ◌⊎◌, ℕ, ◌+◌, Bool, not, ◌&&◌, List, [], ◌∷◌, ◌++◌, length, take, slice_range, ◌==◌, nat_le, nat_lt, if◌then◌else◌, Err, IsSomeAnd, codes, decimal}
+use Rattle.std.specs.Prelude.{◌≡◌, ◌⊎◌, ℕ, ◌+◌, Bool, false, not, ◌&&◌, List, [], ◌∷◌, ◌++◌, length, take, slice_range, ◌==◌, nat_le, nat_lt, if◌then◌else◌, Err, IsSomeAnd, codes, decimal}
 use Rattle.std.specs.List.{concat, list_all, suffix_len}
 use Rattle.ptk_asm.specs.declared.fault.AsmFault.{AsmFault}
 use Rattle.ptk_asm_language.specs.Source as definition
 use Rattle.ptk_asm_language.specs.declared.fault.FaultKind.{FaultKind}
 use Rattle.ptk_asm_language.specs.declared.fault.FaultKind.TheVariants as why
 use Rattle.ptk_main_line.specs.declared.requests.AsmOptions.{AsmOptions}
-use Rattle.ptk_main_faults.specs.Lines.{asm_fault}
+use Rattle.ptk_main_faults.specs.Lines.{asm_fault, line_of}
 use Rattle.ptk_main_faults.specs.declared.fault.Fault.{Fault}
 use Rattle.ptk_main_faults.specs.declared.fault.Fault.TheVariants.{Asm, WriteFailed, NoMemory}
 use Rattle.ptk_main_tools.specs.declared.assembling.TheConstants.{MOST_SHOWN}
@@ -66,6 +66,19 @@ refusal_line source fault = spot_text source fault ++ (reason_words fault.kind +
 -- the program's fault for the assembler's (own)
 abbrev pub source_fault : AsmFault → Fault
 source_fault fault = asm_fault fault.line (definition.fault_number fault.kind)
+
+-- where and why is said on request, and not where memory ran out (own)
+abbrev pub is_explained : Bool → FaultKind → Bool
+is_explained explain why.Memory = false
+is_explained explain kind = explain
+
+-- where a source is refused and why, where that is said (own)
+abbrev pub explanation_text : Bool → List ℕ → AsmFault → List ℕ
+explanation_text explain source fault = if is_explained explain fault.kind then refusal_line source fault else []
+
+-- what is said of a refused source: the line of its fault, and behind it on request where and why (own)
+abbrev pub refused_text : Bool → List ℕ → AsmFault → List ℕ
+refused_text explain source fault = line_of (source_fault fault) ++ codes "\n" ++ explanation_text explain source fault
 
 -- memory ran out, or it is the first fault of the source, by its line (own)
 abbrev pub IsSourceFault : List ℕ → Fault → Type 0

@@ -1,6 +1,6 @@
 //! `asm`: the image of a source.
 
-ghost use Rattle.std.specs.Prelude.{◌≡◌, ℕ, ◌+◌, ◌<◌, ◌==◌, if◌then◌else◌, List, IfErr, IsErr, IsTrue, OnOk};
+ghost use Rattle.std.specs.Prelude.{◌≡◌, ℕ, ◌+◌, ◌<◌, ◌==◌, if◌then◌else◌, List, IfErr, IfOk, IsErr, IsTrue, OnOk};
 ghost use Rattle.std.specs.List.{list_all};
 ghost use Rattle.std.specs.Io.KnownBytes.{Appends};
 ghost use Rattle.ptk_words.specs.Image.{image_bytes};
@@ -10,7 +10,7 @@ ghost use Rattle.ptk_main_faults.specs.HostFaults.{IsHostFault};
 ghost use Rattle.ptk_main_faults.specs.Lines.{status_of};
 ghost use Rattle.ptk_main_faults.specs.Statuses.{status_number};
 ghost use Rattle.ptk_main_tools.specs.Ends.{IsAsmEnd, IsEndStatus};
-ghost use Rattle.ptk_main_tools.specs.Sources.{AreMixed, IsAsmFault, column_of, is_printable, is_shown, piece_of, piece_text, reason_words, refusal_line, source_fault, spot_text};
+ghost use Rattle.ptk_main_tools.specs.Sources.{AreMixed, IsAsmFault, column_of, explanation_text, is_explained, is_printable, is_shown, piece_of, piece_text, reason_words, refusal_line, refused_text, source_fault, spot_text};
 ghost use Rattle.ptk_main_tools.specs.Usage.{IsUsageStatus};
 ghost use Rattle.ptk_main_tools.specs.Written.{IsAssembled, WritesFiles};
 
@@ -20,7 +20,7 @@ use crate::telling::{end, tell, usage};
 use ptk_asm::{AsmFault, assemble, label_table};
 use ptk_asm_language::FaultKind;
 use ptk_image::{Image, write_image};
-use ptk_main_faults::Fault;
+use ptk_main_faults::{Fault, fault_line};
 use ptk_main_line::{AsmOptions, one_file};
 use std::alloc::Global;
 use std::io::Write;
@@ -157,12 +157,53 @@ fn fault_of(fault: &AsmFault) -> Fault<'static>
 fn refused(rt: &HostRuntime, text: &str, explain: bool, fault: &AsmFault) -> u8
     ensures { result ≡ status_number (status_of (source_fault fault.now)) }
 {
-    let line = fault_of(fault);
-    let status = tell(rt, &line);
-    if explain && line != Fault::NoMemory {
-        let _said = put_place(text.as_bytes(), fault, &mut rt.stderr());
+    match put_refused(text.as_bytes(), explain, fault, &mut rt.stderr()) {
+        Ok(status) => status,
+        Err(_) => fault_of(fault).status().number(),
     }
-    status
+}
+
+// Writes the line of a refused source, and behind it on request where and why, and gives the number of its status. An
+// error where `out` refuses the bytes. What is asked for is tried behind a refused line too.
+fn put_refused<W: Write>(
+    source: &[u8],
+    explain: bool,
+    fault: &AsmFault,
+    out: &mut W,
+) -> io::Result<u8>
+    ensures { IfOk result (λ status. (status ≡ status_number (status_of (source_fault fault.now)))
+        × Appends (W.contents out.old) (W.contents out.new) (refused_text explain source.now fault.now)) }
+{
+    let told = fault_line(&fault_of(fault), out);
+    put_explanation(source, explain, fault, out)?;
+    told
+}
+
+// Writes on request where and why a source is refused. Out of memory says nothing of the source. An error where `out`
+// refuses the bytes.
+fn put_explanation<W: Write>(
+    source: &[u8],
+    explain: bool,
+    fault: &AsmFault,
+    out: &mut W,
+) -> io::Result<()>
+    ensures { OnOk result (Appends (W.contents out.old) (W.contents out.new) (explanation_text explain source.now fault.now)) }
+{
+    if !is_explained(explain, fault.kind) {
+        return Ok(());
+    }
+    put_place(source, fault, out)
+}
+
+// Whether it is said where and why a source is refused: it is asked for, and memory did not run out.
+fn is_explained(explain: bool, kind: FaultKind) -> bool
+    ensures { result ≡ is_explained explain kind }
+{
+    match kind {
+        FaultKind::Token | FaultKind::Mnemonic | FaultKind::Register | FaultKind::Range => explain,
+        FaultKind::UnknownLabel | FaultKind::DoubledLabel => explain,
+        FaultKind::Memory => false,
+    }
 }
 
 /// Writes where a source is refused, the column counted in bytes from 1, what is there, and why. An error where

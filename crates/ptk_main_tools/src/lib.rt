@@ -13,8 +13,8 @@
 //! - `asm` is a usage error where two of its files have the same words. A source is done only where the definition has
 //!   its image, and else the status is that of its own fault, or of memory or writing (`asm`). Its labels and then its
 //!   image are what is written, each into its file, and nothing where it is refused (`asm_text`).
-//! - `put_place` writes the definition's line (`refusal_line`): the line, the column and the piece of a source, and why
-//!   it is refused.
+//! - `put_refused` writes the line of a refused source, and on request, where memory did not run out, behind it the
+//!   definition's line (`refusal_line`): the line, the column and the piece of the source, and why it is refused.
 //! - `disasm` is done only where the text of an image with the names of the symbols was written, which is the
 //!   definition's (`disassembled_with`) and a source of that image; of bytes that are no image the fault is that of the
 //!   format (`text_of`). Where it fails before, nothing is written.
