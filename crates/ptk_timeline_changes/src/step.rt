@@ -55,13 +55,7 @@ impl Step {
     /// The last step of a partition that has made one since it had made this many, None where it has made none: it goes
     /// on from this tick up to the next decision, within the window that ends at `end`; a step with which the partition
     /// halts is shown for a tick.
-    pub fn since(
-        system: &System<'_>,
-        p: PartId,
-        steps: u64,
-        tick: u64,
-        end: u64,
-    ) -> Option<Step>
+    pub fn since(system: &System<'_>, p: PartId, steps: u64, tick: u64, end: u64) -> Option<Step>
         requires partition { p < length system.now.config.sections }
         requires within { tick < end }
         ensures step { result ≡ step_since steps tick end (state_of system.now p) }
@@ -77,13 +71,7 @@ impl Step {
     }
 
     /// The same, and None where the tick is the window's end.
-    pub fn within(
-        system: &System<'_>,
-        p: PartId,
-        steps: u64,
-        tick: u64,
-        end: u64,
-    ) -> Option<Step>
+    pub fn within(system: &System<'_>, p: PartId, steps: u64, tick: u64, end: u64) -> Option<Step>
         requires partition { p < length system.now.config.sections }
         requires within { tick ≤ end }
         ensures step { result ≡ step_within steps tick end (state_of system.now p) }
