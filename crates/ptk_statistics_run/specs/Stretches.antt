@@ -1,10 +1,9 @@
 -- How the figures of a run are gathered, one stretch of ticks after another.
-use Rattle.std.specs.Prelude.{◌≡◌, ℕ, ◌+◌, ◌<◌, ◌≤◌, nat_lt, ◌==◌, Bool, true, false, ◌&&◌, ◌||◌, not, List, length, slice_index_or, Option, Some, is_some, option_and_then, option_map, position, unwrap_or}
+use Rattle.std.specs.Prelude.{◌≡◌, ℕ, ◌+◌, ◌<◌, ◌≤◌, nat_lt, ◌==◌, Bool, true, false, ◌&&◌, ◌||◌, not, List, length, slice_index_or, Option, is_some, option_and_then, option_map, position, unwrap_or}
 use Rattle.ptk_words.specs.Names.{Tick}
 use Rattle.ptk_words.specs.declared.TheConstants.{ECALL}
 use Rattle.ptk_words.specs.declared.sections.Entry.{Entry}
-use Rattle.ptk_main_runs.specs.Activities.{activity_in}
-use Rattle.ptk_main_runs.specs.Activity.TheVariants.{Running}
+use Rattle.ptk_main_runs.specs.Going.{GoesOnAsIs}
 use Rattle.ptk_main_runs.specs.World.{World, at_tick, but_next, section_at, state_of}
 use Rattle.ptk_statistics_figures.specs.Counts.{reached}
 use Rattle.ptk_statistics_figures.specs.Times.{capped_sum}
@@ -61,18 +60,12 @@ pub record AreDecided (is_same : Doing → Doing → Bool) (world : World) (to n
   pub decided : AreSeenBy is_same (at_tick (world.tick + 1) world) (Decided world.tick) to ahead after
   pub still : IsStillTo (at_tick (world.tick + 1) world) to next
 
--- from the system's tick on and up to another each thread of a partition does what it did, and each step is of the thread that runs (XSH 2.8.4; own)
-pub record RunsOn (world : World) (p next : ℕ) : Type 0 where
-  pub threads : (k : ℕ) → world.tick ≤ k → k ≤ next → (t : ℕ) → activity_in t (state_of (at_tick k world) p).part ≡ activity_in t (state_of world p).part
-  pub steps : (k : ℕ) → world.tick ≤ k → k < next → (state_of (at_tick k world) p).account.steps < (state_of (at_tick (k + 1) world) p).account.steps
-      → (entry : Entry) → (state_of (at_tick (k + 1) world) p).part.last ≡ Some entry → activity_in entry.thread (state_of world p).part ≡ Running
-
--- a row of steps of a thread that runs, up to this tick, in a run up to a tick: no thread does anything else on the way, and each partition is looked at behind it (own)
+-- a row of steps of a thread that runs, up to this tick, in a run up to a tick: on the way each partition goes on as is, and it is looked at behind it (own)
 pub record IsRow (world : World) (to next : Tick) (before after : List PartStatistics) : Type 0 where
   pub running : is_running_at world ≡ true
   pub from : world.tick ≤ next
   pub within : next ≤ to
-  pub steady : (p : ℕ) → p < length world.config.sections → RunsOn world p next
+  pub steady : (p : ℕ) → p < length world.config.sections → GoesOnAsIs world p next
   pub behind : AreBehindRows (at_tick next world) before after
 
 -- a stretch, from the system's tick up to this one: the decisions at its first tick where nobody runs, else a row, and behind it the decisions at its last tick where they are due (own)

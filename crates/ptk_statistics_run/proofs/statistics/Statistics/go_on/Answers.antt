@@ -1,17 +1,18 @@
 use Rattle.std.proofs.Common.{◌≡◌, ℕ, ◌<◌, ◌≤◌, Bool, true, List, length, ◌∙◌, sym, subst, ap₂, arith}
+use Rattle.ptk_main_runs.specs.Going.{GoesOnAsIs}
 use Rattle.ptk_main_runs.specs.World.{World, at_tick}
 use Rattle.ptk_main_runs.proofs.Keeping.{at_again}
 use Rattle.ptk_statistics_figures.specs.contracts.doing.DoingPartialEq.TheImpl as doing_eq
 use Rattle.ptk_statistics_run.specs.declared.part.PartStatistics.{PartStatistics}
 use Rattle.ptk_statistics_run.specs.Parts.{AreBehindRows}
-use Rattle.ptk_statistics_run.specs.Stretches.{AreDecided, IsRow, RunsOn, are_due_behind, is_running_at, of_both, of_decisions, of_row}
+use Rattle.ptk_statistics_run.specs.Stretches.{AreDecided, IsRow, are_due_behind, is_running_at, of_both, of_decisions, of_row}
 use Rattle.ptk_statistics_run.proofs.Parts.{kept_later}
 use Rattle.ptk_statistics_run.proofs.Stretches.{due_within, went_on}
 use Rattle.ptk_statistics_run.proofs.statistics.Statistics.go_on.Goals as goal
 
 -- a row up to the tick of a system that is looked at behind it
 row_to : (world now : World) (to : ℕ) (before behind : List PartStatistics) → is_running_at world ≡ true → world.tick ≤ now.tick → now.tick ≤ to → now ≡ at_tick now.tick world
-    → ((p : ℕ) → p < length world.config.sections → RunsOn world p now.tick) → AreBehindRows now before behind → IsRow world to now.tick before behind
+    → ((p : ℕ) → p < length world.config.sections → GoesOnAsIs world p now.tick) → AreBehindRows now before behind → IsRow world to now.tick before behind
 row_to world now to before behind running from within goes steady rows = record {
   running = running;
   from = from;
@@ -45,11 +46,9 @@ returns-then-not-is_due-clause-on c =
 pub returns-then-not-is_due-clause-stretch : goal.returns-then-not-is_due-clause-stretch
 returns-then-not-is_due-clause-stretch c =
     let within : c.call_to.new.self.tick ≤ c.args.to = omega (arith, c.call_to.ensures.within, c.requires.due) in
-    let steady : (p : ℕ) → p < length c.args.system.now.config.sections → RunsOn c.args.system.now p c.call_to.new.self.tick =
-    λ p lt. record { threads = λ k from on t. ((c.call_to.ensures.steady p lt).threads k from on).activities t; steps = (c.call_to.ensures.steady p lt).steps } in
     of_row c.call_to.new.self.tick c.look_at_rows.new.self.parts.items
     (row_to c.args.system.now c.call_to.new.self c.args.to c.args.self.now.parts.items c.look_at_rows.new.self.parts.items
-    (sym c.is_running-runs.ensures ∙ c.if-not-runs.false) c.call_to.ensures.from within c.call_to.ensures.run steady c.look_at_rows.ensures.rows)
+    (sym c.is_running-runs.ensures ∙ c.if-not-runs.false) c.call_to.ensures.from within c.call_to.ensures.run c.call_to.ensures.steady c.look_at_rows.ensures.rows)
     (due_then c.args.system.now c.call_to.new.self c.tick-from.result c.args.to c.are_due_behind-is_due.result _
     c.tick-from.ensures c.call_to.ensures.run c.are_due_behind-is_due.ensures c.if-not-is_due.true)
 
@@ -59,11 +58,9 @@ returns-clause-run c = at_again c.args.system.now c.call_to.new.self c.decide-2.
 pub returns-clause-stretch : goal.returns-clause-stretch
 returns-clause-stretch c =
     let within : c.call_to.new.self.tick ≤ c.args.to = omega (arith, c.call_to.ensures.within, c.requires.due) in
-    let steady : (p : ℕ) → p < length c.args.system.now.config.sections → RunsOn c.args.system.now p c.call_to.new.self.tick =
-    λ p lt. record { threads = λ k from on t. ((c.call_to.ensures.steady p lt).threads k from on).activities t; steps = (c.call_to.ensures.steady p lt).steps } in
     of_both c.call_to.new.self.tick c.decide-2.new.system.tick c.look_at_rows.new.self.parts.items c.decide-2.new.self.parts.items
     (row_to c.args.system.now c.call_to.new.self c.args.to c.args.self.now.parts.items c.look_at_rows.new.self.parts.items
-    (sym c.is_running-runs.ensures ∙ c.if-not-runs.false) c.call_to.ensures.from within c.call_to.ensures.run steady c.look_at_rows.ensures.rows)
+    (sym c.is_running-runs.ensures ∙ c.if-not-runs.false) c.call_to.ensures.from within c.call_to.ensures.run c.call_to.ensures.steady c.look_at_rows.ensures.rows)
     (due_then c.args.system.now c.call_to.new.self c.tick-from.result c.args.to c.are_due_behind-is_due.result _
     c.tick-from.ensures c.call_to.ensures.run c.are_due_behind-is_due.ensures c.if-not-is_due.false)
     (subst (λ (world : World). AreDecided (doing_eq.ghosts).eq world c.args.to c.decide-2.new.system.tick c.look_at_rows.new.self.parts.items c.decide-2.new.self.parts.items)
