@@ -3,8 +3,12 @@ use Rattle.std.proofs.Common.{◌≡◌, ◌≢◌, ℕ, ◌<◌, ◌≤◌, max
 use Rattle.std.specs.List.{position_or_len}
 use Rattle.std.proofs.lemmas.Bool.{and_parts, cases_eq, eq-eqb, eqb-true, false≢true, le-ltb, lt-ltb, ltb-true, or_cases, or_parts}
 use Rattle.std.proofs.lemmas.List.Sums.{position_or_len_is}
+use Rattle.ptk_main_runs.specs.Going.{GoesOnAsIs}
 use Rattle.ptk_main_runs.specs.World.{World, at_tick, but_next, state_of}
-use Rattle.ptk_statistics_run.specs.Stretches.{IsStillTo, are_due_behind, ends_behind_plain_step, is_behind_plain_step}
+use Rattle.ptk_statistics_figures.specs.declared.doing.Doing.{Doing}
+use Rattle.ptk_statistics_run.specs.declared.part.PartStatistics.{PartStatistics}
+use Rattle.ptk_statistics_run.specs.Parts.{AreBehindRows}
+use Rattle.ptk_statistics_run.specs.Stretches.{AreGathered, IsStillTo, IsStretch, are_due_behind, at_first, ends_behind_plain_step, gone_on, is_behind_plain_step}
 
 -- ---- the first that passes
 
@@ -53,3 +57,24 @@ still_to world to until next alone early goes still =
     ap (λ (k : ℕ). but_next (state_of (at_tick k world) p)) same ∙ at_once p) in
     let same : until ≡ next = omega (arith, goes, reach) in
     subst (IsStillTo world to) same still
+
+-- ---- one stretch after another
+
+-- of a system that went on over one stretch more
+pub one_more : (is_same : Doing → Doing → Bool) (to : ℕ) (world now next : World) (first before after : List PartStatistics) → AreGathered is_same to world first now before → next ≡ at_tick next.tick now
+    → IsStretch is_same now to next.tick before after → AreGathered is_same to world first next after
+one_more is_same to world now next first before after so goes is =
+    subst (λ (w : World). AreGathered is_same to world first w after) (sym goes) (gone_on now next.tick before after so is)
+
+-- of one that went on over a row
+pub row_gathered : (is_same : Doing → Doing → Bool) (to : ℕ) (world now : World) (before after : List PartStatistics) → world.tick ≤ now.tick → now.tick ≤ to → now ≡ at_tick now.tick world
+    → ((p : ℕ) → p < length world.config.sections → GoesOnAsIs world p now.tick) → AreBehindRows now before after → AreGathered is_same to world before now after
+row_gathered is_same to world now before after from within goes steady rows =
+    one_more is_same to world world now before before after at_first goes
+    (inr (record { from = from; within = within; steady = steady; behind = subst (λ (w : World). AreBehindRows w before after) goes rows }))
+
+-- gathered up to a system, and from there on
+pub gathered_on : (is_same : Doing → Doing → Bool) (to : ℕ) (world now : World) (first before : List PartStatistics) → AreGathered is_same to world first now before
+    → {later : World} {after : List PartStatistics} → AreGathered is_same to now before later after → AreGathered is_same to world first later after
+gathered_on is_same to world now first before so at_first = so
+gathered_on is_same to world now first before so (gone_on last next middle after on is) = gone_on last next middle after (gathered_on is_same to world now first before so on) is

@@ -1,5 +1,5 @@
 -- How the figures of a run are gathered, one stretch of ticks after another.
-use Rattle.std.specs.Prelude.{◌≡◌, ℕ, ◌+◌, ◌<◌, ◌≤◌, nat_lt, ◌==◌, Bool, true, false, ◌&&◌, ◌||◌, not, List, length, slice_index_or, Option, is_some, option_and_then, option_map, position, unwrap_or}
+use Rattle.std.specs.Prelude.{◌≡◌, ℕ, ◌+◌, ◌<◌, ◌≤◌, nat_lt, ◌==◌, Bool, false, ◌&&◌, ◌||◌, ◌⊎◌, not, List, length, slice_index_or, Option, is_some, option_and_then, option_map, position, unwrap_or}
 use Rattle.ptk_words.specs.Names.{Tick}
 use Rattle.ptk_words.specs.declared.TheConstants.{ECALL}
 use Rattle.ptk_words.specs.declared.sections.Entry.{Entry}
@@ -60,30 +60,24 @@ pub record AreDecided (is_same : Doing → Doing → Bool) (world : World) (to n
   pub decided : AreSeenBy is_same (at_tick (world.tick + 1) world) (Decided world.tick) to ahead after
   pub still : IsStillTo (at_tick (world.tick + 1) world) to next
 
--- a row of steps of a thread that runs, up to this tick, in a run up to a tick: on the way each partition goes on as is, and it is looked at behind it (own)
+-- a row of steps, up to this tick, in a run up to a tick: on the way each partition goes on as is, and it is looked at behind it (own)
 pub record IsRow (world : World) (to next : Tick) (before after : List PartStatistics) : Type 0 where
-  pub running : is_running_at world ≡ true
   pub from : world.tick ≤ next
   pub within : next ≤ to
   pub steady : (p : ℕ) → p < length world.config.sections → GoesOnAsIs world p next
   pub behind : AreBehindRows (at_tick next world) before after
 
--- a stretch, from the system's tick up to this one: the decisions at its first tick where nobody runs, else a row, and behind it the decisions at its last tick where they are due (own)
-pub data IsStretch (is_same : Doing → Doing → Bool) (world : World) (to : Tick) (before : List PartStatistics) : Tick → List PartStatistics → Type 0 where
-  of_decisions : (next : Tick) (after : List PartStatistics) → is_running_at world ≡ false → AreDecided is_same world to next before after
-      → IsStretch is_same world to before next after
-  of_row : (next : Tick) (after : List PartStatistics) → IsRow world to next before after → are_due_behind world.tick to (at_tick next world) ≡ false
-      → IsStretch is_same world to before next after
-  of_both : (reached next : Tick) (behind after : List PartStatistics) → IsRow world to reached before behind → are_due_behind world.tick to (at_tick reached world) ≡ true
-      → AreDecided is_same (at_tick reached world) to next behind after → IsStretch is_same world to before next after
+-- a stretch, from the system's tick up to this one, in a run up to a tick: the decisions at its first tick, or a row (own)
+abbrev pub IsStretch : (Doing → Doing → Bool) → World → Tick → Tick → List PartStatistics → List PartStatistics → Type 0
+IsStretch is_same world to next before after = AreDecided is_same world to next before after ⊎ IsRow world to next before after
 
 -- ---- a run
 
--- the figures at a tick of a run up to another, gathered from these at its first tick on by one stretch after another (own)
-pub data AreGathered (is_same : Doing → Doing → Bool) (world : World) (to : Tick) (first : List PartStatistics) : Tick → List PartStatistics → Type 0 where
-  at_first : AreGathered is_same world to first world.tick first
-  gone_on : (tick next : Tick) (before after : List PartStatistics) → AreGathered is_same world to first tick before → IsStretch is_same (at_tick tick world) to before next after
-      → AreGathered is_same world to first next after
+-- the figures of a system that went on from another, in a run up to a tick: gathered from these of that one, one stretch after another (own)
+pub data AreGathered (is_same : Doing → Doing → Bool) (to : Tick) (world : World) (first : List PartStatistics) : World → List PartStatistics → Type 0 where
+  at_first : AreGathered is_same to world first world first
+  gone_on : (now : World) (next : Tick) (before after : List PartStatistics) → AreGathered is_same to world first now before → IsStretch is_same now to next before after
+      → AreGathered is_same to world first (at_tick next now) after
 
 -- the figures of a partition before a tick is counted: those of its threads and mutexes by its section's numbers, and none of its steps was looked at (own)
 pub record IsFirstOf (world : World) (p : ℕ) (part : PartStatistics) : Type 0 where
@@ -101,5 +95,5 @@ pub record AreFiguresOf (is_same : Doing → Doing → Bool) (world : World) (to
   pub first : List PartStatistics
   pub last : List PartStatistics
   pub begun : AreFirst world first
-  pub gathered : AreGathered is_same world to first to last
+  pub gathered : AreGathered is_same to world first (at_tick to world) last
   pub finished : AreFinished (at_tick to world) last statistics.parts.items

@@ -4,7 +4,7 @@ ghost use Rattle.std.specs.Prelude.{◌≡◌, ◌<◌, ◌≤◌, IfOk, OnErr, 
 ghost use Rattle.ptk_words.specs.declared.TheConstants.{LAST_TICK};
 ghost use Rattle.ptk_main_runs.specs.World.{at_tick, section_at};
 ghost use Rattle.ptk_statistics_run.specs.Parts.{AgreesWith, AreBehindRows, AreEnded, AreFinished, AreKept, AreSeenBy, IsBefore};
-ghost use Rattle.ptk_statistics_run.specs.Stretches.{AreDecided, AreFiguresOf, AreFirst, AreGathered, IsStretch};
+ghost use Rattle.ptk_statistics_run.specs.Stretches.{AreDecided, AreFiguresOf, AreFirst, AreGathered};
 
 use crate::due::{are_due_behind, is_running};
 use crate::part::{PartStatistics, Sight};
@@ -55,7 +55,7 @@ impl Statistics {
         requires kept { AreKept system.old self.old.parts.items }
         ensures run { system.new ≡ at_tick to system.old }
         ensures kept { AreKept system.new self.new.parts.items }
-        ensures gathered { AreGathered ⟦<Doing as PartialEq>⟧.eq system.old to self.old.parts.items to self.new.parts.items }
+        ensures gathered { AreGathered ⟦<Doing as PartialEq>⟧.eq to system.old self.old.parts.items system.new self.new.parts.items }
     {
         system.states_are_alone();
         let mut tick = system.tick().ticks();
@@ -65,8 +65,8 @@ impl Statistics {
         }
     }
 
-    /// Goes on over one stretch: the decisions at the system's tick where nobody runs, else plain steps and the quiet
-    /// call behind them, and the decisions behind those where no step was made or the last one was plain.
+    /// Goes on over a stretch or two: the decisions at the system's tick where nobody runs, else plain steps and the
+    /// quiet call behind them, and the decisions behind those where no step was made or the last one was plain.
     fn go_on(&mut self, system: &mut System<'_>, to: Tick)
         requires early { to ≤ LAST_TICK }
         requires due { system.old.tick < to }
@@ -75,7 +75,7 @@ impl Statistics {
         ensures on { system.old.tick < system.new.tick }
         ensures within { system.new.tick ≤ to }
         ensures kept { AreKept system.new self.new.parts.items }
-        ensures stretch { IsStretch ⟦<Doing as PartialEq>⟧.eq system.old to self.old.parts.items system.new.tick self.new.parts.items }
+        ensures gathered { AreGathered ⟦<Doing as PartialEq>⟧.eq to system.old self.old.parts.items system.new self.new.parts.items }
     {
         let from = system.tick();
         let runs = is_running(system);

@@ -1,8 +1,9 @@
-use Rattle.std.proofs.Common.{◌≡◌, ℕ, ◌∙◌, ap, subst, arith}
-use Rattle.ptk_main_runs.specs.World.{World, at_tick}
+use Rattle.std.proofs.Common.{◌≡◌, ℕ, ◌∙◌, ap, arith}
+use Rattle.ptk_main_runs.specs.World.{at_tick}
 use Rattle.ptk_main_runs.proofs.Keeping.{at_again}
 use Rattle.ptk_statistics_figures.specs.contracts.doing.DoingPartialEq.TheImpl as doing_eq
-use Rattle.ptk_statistics_run.specs.Stretches.{AreGathered, IsStretch, at_first, gone_on}
+use Rattle.ptk_statistics_run.specs.Stretches.{at_first}
+use Rattle.ptk_statistics_run.proofs.Stretches.{gathered_on}
 use Rattle.ptk_statistics_run.proofs.statistics.Statistics.run.Goals as goal
 
 pub loop-tick-init : goal.loop-tick-init
@@ -20,17 +21,11 @@ loop-tick-preserved c = record {
   within = c.go_on.ensures.within;
   at = omega arith;
   kept = c.go_on.ensures.kept;
-  gathered = gone_on c.loop-tick.system.tick c.go_on.new.system.tick c.loop-tick.self.parts.items c.go_on.new.self.parts.items c.loop-tick.invariant.gathered
-      (subst (λ (world : World). IsStretch (doing_eq.ghosts).eq world c.args.to c.loop-tick.self.parts.items c.go_on.new.system.tick c.go_on.new.self.parts.items)
-      c.loop-tick.invariant.run c.go_on.ensures.stretch);
+  gathered = gathered_on (doing_eq.ghosts).eq c.args.to c.args.system.now c.loop-tick.system c.args.self.now.parts.items c.loop-tick.self.parts.items
+      c.loop-tick.invariant.gathered c.go_on.ensures.gathered;
 }
 
 pub returns-clause-run : goal.returns-clause-run
 returns-clause-run c =
     let reached : c.loop-tick.system.tick ≡ c.args.to = omega arith in
     c.loop-tick.invariant.run ∙ ap (λ (n : ℕ). at_tick n c.args.system.now) reached
-
-pub returns-clause-gathered : goal.returns-clause-gathered
-returns-clause-gathered c =
-    let reached : c.loop-tick.system.tick ≡ c.args.to = omega arith in
-    subst (λ (n : ℕ). AreGathered (doing_eq.ghosts).eq c.args.system.now c.args.to c.args.self.now.parts.items n c.loop-tick.self.parts.items) reached c.loop-tick.invariant.gathered

@@ -11,7 +11,7 @@ invariant-loop-tick l = record {
   within : l.system.tick ≤ l.to;
   at : l.tick ≡ l.system.tick;
   kept : AreKept l.system l.self.parts.items;
-  gathered : AreGathered (doing_eq.ghosts).eq l.initial.system l.to l.initial.self.parts.items l.system.tick l.self.parts.items;
+  gathered : AreGathered (doing_eq.ghosts).eq l.to l.initial.system l.initial.self.parts.items l.system l.self.parts.items;
 }
 
 abbrev pub decreases-loop-tick : goal.decreases-loop-tick
