@@ -25,22 +25,22 @@ use Rattle.ptk_main_commands.specs.Answered.{IsExplanationOf, IsStatsOf, IsTimel
 use Rattle.ptk_main_commands.specs.Refusals.{picture_refusal, stats_refusal}
 
 -- figures in a form, by what is written in each
-pub figures_by : (shown : Figures) (world : World) (asked : Option (Bor (List ℕ))) (old new : Option (List ℕ)) → (shown ≡ figures.Json → PutsRun world asked old new) → (shown ≡ figures.Tables → PutsTables world asked old new)
-    → PutsFigures shown world asked old new
-figures_by figures.Tables world asked old new json tables = tables refl
-figures_by figures.Json world asked old new json tables = json refl
+pub figures_by : (shown : Figures) (world : World) (to : ℕ) (asked : Option (Bor (List ℕ))) (old new : Option (List ℕ)) → (shown ≡ figures.Json → PutsRun world to asked old new)
+    → (shown ≡ figures.Tables → PutsTables world to asked old new) → PutsFigures shown world to asked old new
+figures_by figures.Tables world to asked old new json tables = tables refl
+figures_by figures.Json world to asked old new json tables = json refl
 
 -- a good outcome of figures in the form that is asked for
 pub stats_by : {T : Type 0} (options : StatsOptions) (config : Configuration) (outcome : Result T Fault) (files : List NamedFile) (ticks : ℕ) (shown : Figures) (old new : Option (List ℕ)) → AreImagesOf config.sections files → ticks ≡ options.run.ticks → shown ≡ figures_in options.format
     → MatchResult outcome (λ _. stats_refusal options.partition config files ≡ None) (IsFaultOf (stats_refusal options.partition config files) (stats_refusal options.partition config files))
-    → OnOk outcome (PutsFigures shown (world_at config files ticks) options.partition old new) → OnOk outcome (WithImages config.sections (IsStatsOf options config old new))
+    → OnOk outcome (PutsFigures shown (world_at config files 0) ticks options.partition old new) → OnOk outcome (WithImages config.sections (IsStatsOf options config old new))
 stats_by options config (Ok u) files ticks shown old new images same form_is is written = (
   files,
   images,
   record {
     accepted = is;
-    written = subst (λ (f : Figures). PutsFigures f (world_at config files options.run.ticks) options.partition old new) form_is
-        (subst (λ (t : ℕ). PutsFigures shown (world_at config files t) options.partition old new) same written);
+    written = subst (λ (f : Figures). PutsFigures f (world_at config files 0) options.run.ticks options.partition old new) form_is
+        (subst (λ (t : ℕ). PutsFigures shown (world_at config files 0) t options.partition old new) same written);
   },
 )
 stats_by options config (Err fault) files ticks shown old new images same form_is is written = tt

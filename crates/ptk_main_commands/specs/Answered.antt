@@ -35,15 +35,15 @@ abbrev pub figures_in : Format → Figures
 figures_in form.Text = figures.Tables
 figures_in form.Json = figures.Json
 
--- the figures of a run to the system's tick are written in a form (own)
-abbrev pub PutsFigures : Figures → World → Option (Bor (List ℕ)) → Option (List ℕ) → Option (List ℕ) → Type 0
-PutsFigures figures.Tables world asked old new = PutsTables world asked old new
-PutsFigures figures.Json world asked old new = PutsRun world asked old new
+-- the figures of the run from this system up to a tick are written in a form (own)
+abbrev pub PutsFigures : Figures → World → ℕ → Option (Bor (List ℕ)) → Option (List ℕ) → Option (List ℕ) → Type 0
+PutsFigures figures.Tables world to asked old new = PutsTables world to asked old new
+PutsFigures figures.Json world to asked old new = PutsRun world to asked old new
 
--- with these images nothing is refused, and the figures of a run to the tick that is asked for are written in the form that is asked for (own)
+-- with these images nothing is refused, and the figures of the run from the boot up to the tick that is asked for are written in the form that is asked for (own)
 pub record IsStatsOf (options : StatsOptions) (config : Configuration) (old new : Option (List ℕ)) (files : List NamedFile) : Type 0 where
   pub accepted : stats_refusal options.partition config files ≡ None
-  pub written : PutsFigures (figures_in options.format) (world_at config files options.run.ticks) options.partition old new
+  pub written : PutsFigures (figures_in options.format) (world_at config files 0) options.run.ticks options.partition old new
 
 -- ---- how a partition stands
 

@@ -70,7 +70,7 @@ fn stats_answer<'a, W: Write>(
     ensures refused { let refusal = option_map_or (λ word. refused_trace (part_named config.now word.now) config.now files.now word.now)
         name.entry (missing_image config.now files.now) in
         MatchResult result (λ _. refusal ≡ None) (IsFaultOf refusal refusal) }
-    ensures written { OnOk result (PutsFigures form (world_at config.now files.now ticks) name.entry (W.contents out.old) (W.contents out.new)) }
+    ensures written { OnOk result (PutsFigures form (world_at config.now files.now 0) ticks name.entry (W.contents out.old) (W.contents out.new)) }
 {
     match name {
         Some(name) => stats_of_one(alloc, config, files, ticks, name, form, out),
@@ -101,7 +101,7 @@ fn stats_of_one<'a, W: Write>(
     requires { ticks ≤ LAST_TICK }
     ensures refused { let refusal = refused_trace (part_named config.now name.now) config.now files.now name.now in
         MatchResult result (λ _. refusal ≡ None) (IsFaultOf refusal refusal) }
-    ensures written { OnOk result (PutsFigures form (world_at config.now files.now ticks) (Some name.entry) (W.contents out.old) (W.contents out.new)) }
+    ensures written { OnOk result (PutsFigures form (world_at config.now files.now 0) ticks (Some name.entry) (W.contents out.old) (W.contents out.new)) }
 {
     match stats_with(alloc, config, files, ticks, Some(name), form, out) {
         Ok(()) => Ok(()),
@@ -121,7 +121,7 @@ fn stats_of_all<'a, W: Write>(
     requires { ticks ≤ LAST_TICK }
     ensures refused { let refusal = missing_image config.now files.now in
         MatchResult result (λ _. refusal ≡ None) (IsFaultOf refusal refusal) }
-    ensures written { OnOk result (PutsFigures form (world_at config.now files.now ticks) None (W.contents out.old) (W.contents out.new)) }
+    ensures written { OnOk result (PutsFigures form (world_at config.now files.now 0) ticks None (W.contents out.old) (W.contents out.new)) }
 {
     match stats_with(alloc, config, files, ticks, None, form, out) {
         Ok(()) => Ok(()),

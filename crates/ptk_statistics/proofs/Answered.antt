@@ -11,13 +11,16 @@ use denote.Ref.{Bor}
 use Rattle.ptk_config.specs.Configuration.{Configuration}
 use Rattle.ptk_statistics_run.specs.PartStatus.{PartStatus}
 use Rattle.ptk_statistics_run.specs.Told.{status_in}
-use Rattle.ptk_statistics_run.specs.World.{World, section_at, state_of}
+use Rattle.ptk_statistics_run.specs.World.{World, at_tick, section_at, state_of}
 use Rattle.ptk_statistics_run.specs.declared.part.PartStatistics.{PartStatistics}
 use Rattle.ptk_statistics_run.specs.declared.statistics.Statistics.{Statistics}
 use Rattle.ptk_statistics_run.specs.PartNames.{is_asked}
 use Rattle.ptk_statistics.specs.Document.{IsObject}
 use Rattle.ptk_statistics_run.specs.Parts.{AgreesWith}
+use Rattle.ptk_statistics_run.specs.Stretches.{AreFiguresOf}
 use Rattle.ptk_statistics.specs.Answered.{AreTextsOf, IsObjectAt, PutsAsked, PutsDocument, PutsRun, beginning_text, comma_before, document_text, end_text, joined}
+use Rattle.ptk_statistics.specs.Runs.{same_doing}
+use Rattle.ptk_statistics.proofs.Runs.{are_of_run}
 
 -- no text is there yet
 abbrev pub has_no_text : List (List ℕ) → Bool
@@ -126,10 +129,10 @@ pub beginning_put : (ticks number : ℕ) (old new : Option (List ℕ)) → numbe
 beginning_put ticks number old new same put = subst (λ (n : ℕ). Appends old new (beginning_text n)) same put
 
 -- the system that was run is the definition's
-pub run_put : (world last : World) (statistics : Statistics) (asked : Option (Bor (List ℕ))) (old new : Option (List ℕ)) → world ≡ last → AgreesWith world statistics
-    → PutsDocument last.tick world statistics.parts.items asked old new → PutsRun last asked old new
-run_put world last statistics asked old new same agrees put = (
+pub run_put : (booted first last : World) (to : ℕ) (statistics : Statistics) (asked : Option (Bor (List ℕ))) (old new : Option (List ℕ)) → booted ≡ first → last ≡ at_tick to booted
+    → AreFiguresOf same_doing booted to statistics → AgreesWith last statistics → PutsDocument to last statistics.parts.items asked old new → PutsRun first to asked old new
+run_put booted first last to statistics asked old new begun ran gathered agrees put = (
   statistics,
-  subst (λ (w : World). AgreesWith w statistics) same agrees,
-  subst (λ (w : World). PutsDocument last.tick w statistics.parts.items asked old new) same put,
+  are_of_run booted first last to statistics begun ran gathered agrees,
+  subst (λ (w : World). PutsDocument to w statistics.parts.items asked old new) (ran ∙ ap (at_tick to) begun) put,
 )

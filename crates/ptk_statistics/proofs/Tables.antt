@@ -14,7 +14,7 @@ use Rattle.ptk_words.specs.declared.TheConstants.{LAST_TICK, THREAD_LIMIT}
 use Rattle.ptk_words_windows.specs.Windows.{own_ticks}
 use Rattle.ptk_statistics_run.specs.PartStatus.{PartStatus}
 use Rattle.ptk_statistics_run.specs.Told.{status_in}
-use Rattle.ptk_statistics_run.specs.World.{World, section_at, state_of}
+use Rattle.ptk_statistics_run.specs.World.{World, at_tick, section_at, state_of}
 use Rattle.ptk_statistics_figures.specs.declared.counted.Counted.{Counted}
 use Rattle.ptk_statistics_figures.specs.declared.doing.Doing.{Doing}
 use Rattle.ptk_statistics_figures.specs.declared.moment.Longest.{Longest}
@@ -33,8 +33,11 @@ use Rattle.ptk_statistics_run.specs.declared.part.PartStatistics.{PartStatistics
 use Rattle.ptk_statistics_run.specs.declared.statistics.Statistics.{Statistics}
 use Rattle.ptk_statistics_run.specs.PartNames.{is_asked}
 use Rattle.ptk_statistics_run.specs.Parts.{AgreesWith}
+use Rattle.ptk_statistics_run.specs.Stretches.{AreFiguresOf}
+use Rattle.ptk_statistics.specs.Runs.{AreOfRun, same_doing}
 use Rattle.ptk_statistics.specs.Words.{word_of_doing, word_of_outcome}
 use Rattle.ptk_statistics.specs.Tables.{AreCounted, PutsBlocks, PutsIfCounted, PutsTables, activation_row, activation_rows, activations_table, asked_block, at_left, at_right, block_text, blocks_text, call_row, call_rows, calls_table, counted_header, counted_row, counted_table, counted_thread, eight_digits, figure, first_cell, first_number, kind_cell, longest_rows, mutex_rows, mutexes_table, name_line, number_cell, numbered, row_text, spans_table, stack_cell, thread_activations, thread_row, thread_rows, threads_header, threads_table, ticks_by, ticks_row, word_cell, word_of_clock}
+use Rattle.ptk_statistics.proofs.Runs.{are_of_run}
 
 -- ---- cells
 
@@ -304,11 +307,11 @@ counted_within world statistics early agrees place default lt =
     omega (arith, ticks, own_most (own_ticks world.config.plan place) world.tick, early)
 
 -- the system that was run is the definition's
-pub tables_put : (world last : World) (statistics : Statistics) (asked : Option (Bor (List ℕ))) (old new : Option (List ℕ)) → world ≡ last → last.tick ≤ LAST_TICK → AgreesWith world statistics
-    → PutsBlocks world statistics.parts.items asked old new → PutsTables last asked old new
-tables_put world last statistics asked old new same early agrees put =
-    let agree : AgreesWith last statistics = subst (λ (w : World). AgreesWith w statistics) same agrees in (
+pub tables_put : (booted first last : World) (to : ℕ) (statistics : Statistics) (asked : Option (Bor (List ℕ))) (old new : Option (List ℕ)) → booted ≡ first → last ≡ at_tick to booted → to ≤ LAST_TICK
+    → AreFiguresOf same_doing booted to statistics → AgreesWith last statistics → PutsBlocks last statistics.parts.items asked old new → PutsTables first to asked old new
+tables_put booted first last to statistics asked old new begun ran early gathered agrees put =
+    let are : AreOfRun first to statistics = are_of_run booted first last to statistics begun ran gathered agrees in (
       statistics,
-      agree,
-      subst (λ (w : World). Appends old new (blocks_text w asked statistics.parts.items)) same (put (counted_within last statistics early agree)),
+      are,
+      subst (λ (w : World). Appends old new (blocks_text w asked statistics.parts.items)) (ran ∙ ap (at_tick to) begun) (put (counted_within (at_tick to first) statistics early are.agree)),
     )

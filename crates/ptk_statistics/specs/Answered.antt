@@ -3,13 +3,14 @@ use Rattle.std.specs.Prelude.{◌≡◌, ℕ, Bool, true, false, List, [], ◌�
 use Rattle.std.specs.List.{HoldsAt, concat, join_by, range_with_len}
 use Rattle.std.specs.Io.KnownBytes.{Appends}
 use denote.Ref.{Bor}
+use Rattle.ptk_words.specs.Names.{Tick}
 use Rattle.ptk_statistics_run.specs.Told.{status_in}
-use Rattle.ptk_statistics_run.specs.World.{World, section_at, state_of}
+use Rattle.ptk_statistics_run.specs.World.{World, at_tick, section_at, state_of}
 use Rattle.ptk_statistics_run.specs.declared.part.PartStatistics.{PartStatistics}
 use Rattle.ptk_statistics_run.specs.declared.statistics.Statistics.{Statistics}
 use Rattle.ptk_statistics_run.specs.PartNames.{is_asked}
 use Rattle.ptk_statistics.specs.Document.{IsObject}
-use Rattle.ptk_statistics_run.specs.Parts.{AgreesWith}
+use Rattle.ptk_statistics.specs.Runs.{AreOfRun}
 
 -- the text is the object of the partition at a place, with its section's name, its status and its figures (own)
 abbrev pub IsObjectAt : World → List PartStatistics → ℕ → List ℕ → Type 0
@@ -65,6 +66,6 @@ document_text ticks texts = beginning_text ticks ++ (joined texts ++ end_text)
 abbrev pub PutsDocument : ℕ → World → List PartStatistics → Option (Bor (List ℕ)) → Option (List ℕ) → Option (List ℕ) → Type 0
 PutsDocument ticks world parts asked old new = (texts : List (List ℕ)) × AreAsked world parts asked texts × Appends old new (document_text ticks texts)
 
--- the object of a run to the system's tick is written, with figures that agree with the system (own)
-abbrev pub PutsRun : World → Option (Bor (List ℕ)) → Option (List ℕ) → Option (List ℕ) → Type 0
-PutsRun world asked old new = (statistics : Statistics) × AgreesWith world statistics × PutsDocument world.tick world statistics.parts.items asked old new
+-- the object of the run from this system up to a tick is written, with its figures (own)
+abbrev pub PutsRun : World → Tick → Option (Bor (List ℕ)) → Option (List ℕ) → Option (List ℕ) → Type 0
+PutsRun world to asked old new = (statistics : Statistics) × AreOfRun world to statistics × PutsDocument to (at_tick to world) statistics.parts.items asked old new

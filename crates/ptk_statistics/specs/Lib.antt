@@ -1,3 +1,4 @@
+pub mod Runs
 pub mod Asked
 pub mod Words
 pub mod Document

@@ -4,7 +4,7 @@ use Rattle.std.specs.Fmt.{char_count, digits}
 use Rattle.std.specs.List.{concat}
 use Rattle.std.specs.Io.KnownBytes.{Appends}
 use denote.Ref.{Bor}
-use Rattle.ptk_words.specs.Names.{newline}
+use Rattle.ptk_words.specs.Names.{Tick, newline}
 use Rattle.ptk_words.specs.declared.calls.Call.{Call}
 use Rattle.ptk_words.specs.Calls.{number_of}
 use Rattle.ptk_words.specs.declared.TheConstants.{LAST_TICK, THREAD_LIMIT}
@@ -23,7 +23,7 @@ use Rattle.ptk_statistics_figures.specs.Lengths.{mean_of}
 use Rattle.ptk_statistics_figures.specs.Threads.{calls_at, is_used, other_calls, time_of}
 use Rattle.ptk_statistics_run.specs.PartStatus.{PartStatus}
 use Rattle.ptk_statistics_run.specs.Told.{status_in}
-use Rattle.ptk_statistics_run.specs.World.{World, section_at, state_of}
+use Rattle.ptk_statistics_run.specs.World.{World, at_tick, section_at, state_of}
 use Rattle.ptk_statistics.specs.declared.words.TheConstants.{KINDS}
 use Rattle.ptk_statistics.specs.declared.blocks.Cell.{Cell}
 use Rattle.ptk_statistics.specs.declared.blocks.Cell.TheVariants.{First, Number, Word, Stack}
@@ -32,7 +32,7 @@ use Rattle.ptk_statistics.specs.declared.blocks.Clock.TheVariants.{Own, Wall}
 use Rattle.ptk_statistics_run.specs.declared.part.PartStatistics.{PartStatistics}
 use Rattle.ptk_statistics_run.specs.declared.statistics.Statistics.{Statistics}
 use Rattle.ptk_statistics_run.specs.PartNames.{is_asked}
-use Rattle.ptk_statistics_run.specs.Parts.{AgreesWith}
+use Rattle.ptk_statistics.specs.Runs.{AreOfRun}
 use Rattle.ptk_statistics.specs.Words.{word_of_doing, word_of_outcome}
 
 -- ---- cells and rows
@@ -308,6 +308,6 @@ AreCounted parts = (place : ℕ) (default : PartStatistics) → place < length p
 abbrev pub PutsBlocks : World → List PartStatistics → Option (Bor (List ℕ)) → Option (List ℕ) → Option (List ℕ) → Type 0
 PutsBlocks world parts asked old new = AreCounted parts → Appends old new (blocks_text world asked parts)
 
--- the tables of a run to the system's tick are written, with figures that agree with the system (own)
-abbrev pub PutsTables : World → Option (Bor (List ℕ)) → Option (List ℕ) → Option (List ℕ) → Type 0
-PutsTables world asked old new = (statistics : Statistics) × AgreesWith world statistics × Appends old new (blocks_text world asked statistics.parts.items)
+-- the tables of the run from this system up to a tick are written, with its figures (own)
+abbrev pub PutsTables : World → Tick → Option (Bor (List ℕ)) → Option (List ℕ) → Option (List ℕ) → Type 0
+PutsTables world to asked old new = (statistics : Statistics) × AreOfRun world to statistics × Appends old new (blocks_text (at_tick to world) asked statistics.parts.items)

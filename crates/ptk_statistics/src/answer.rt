@@ -58,9 +58,9 @@ pub fn stats_with<W: Write>(
         (λ _. first_missing files.now config.now.sections ≡ None)
         (λ fault. fault ≢ NoPartition → first_missing files.now config.now.sections ≡ missing_in_run fault) }
     ensures json { OnOk result (form ≡ Form.Json →
-        PutsRun (world_at config.now files.now ticks) partition.entry (W.contents out.old) (W.contents out.new)) }
+        PutsRun (world_at config.now files.now 0) ticks partition.entry (W.contents out.old) (W.contents out.new)) }
     ensures tables { OnOk result (form ≡ Form.Tables →
-        PutsTables (world_at config.now files.now ticks) partition.entry (W.contents out.old) (W.contents out.new)) }
+        PutsTables (world_at config.now files.now 0) ticks partition.entry (W.contents out.old) (W.contents out.new)) }
     ensures silent { IfErr result (λ fault. fault ≢ RunFault.Write →
         (form ≡ Form.Json → fault ≢ RunFault.Boot BootFault.Memory) → out.new ≡ out.old) }
 {
@@ -97,9 +97,9 @@ fn put_answer<W: Write>(
         (λ _. first_missing files.now config.now.sections ≡ None)
         (λ fault. first_missing files.now config.now.sections ≡ missing_in_run fault) }
     ensures json { OnOk result (form ≡ Form.Json →
-        PutsRun (world_at config.now files.now ticks) partition.entry (W.contents out.old) (W.contents out.new)) }
+        PutsRun (world_at config.now files.now 0) ticks partition.entry (W.contents out.old) (W.contents out.new)) }
     ensures tables { OnOk result (form ≡ Form.Tables →
-        PutsTables (world_at config.now files.now ticks) partition.entry (W.contents out.old) (W.contents out.new)) }
+        PutsTables (world_at config.now files.now 0) ticks partition.entry (W.contents out.old) (W.contents out.new)) }
     ensures silent { IfErr result (λ fault. fault ≢ RunFault.Write →
         (form ≡ Form.Json → fault ≢ RunFault.Boot BootFault.Memory) → out.new ≡ out.old) }
 {

@@ -12,7 +12,9 @@
 //! - Of threads, calls and mutexes it has those that there were, each with all members of the definition, which are the
 //!   numbers of its figures (`SendsThread`, `SendsMutex`).
 //! - The tables that it writes are those of the partitions that are asked for, in ascending order, and no other
-//!   (`tables`: `PutsTables`): the names of the figures, and in the cells the figures of the same run (`block_text`).
+//!   (`tables`: `PutsTables`): the names of the figures, and in the cells the figures (`block_text`).
+//! - In both forms these are the figures that are gathered on the run from the boot up to its last tick, and their sums
+//!   agree with the system then (`AreOfRun`).
 //!
 //! Nothing is written before a fault but the writer's own and, where memory runs out while JSON is written, what is
 //! before it. The bytes are tested too (`ptk_main_tests`). Below are the figures of a run (`ptk_statistics_run`) and the

@@ -8,12 +8,12 @@ pub returns-in-Some-clause-written : goal.returns-in-Some-clause-written
 returns-in-Some-clause-written g c =
     subst
     (λ (name : Option (Bor (List ℕ))). OnOk c.stats_of_one.result
-    (PutsFigures c.args.form (world_at c.args.config.now c.args.files.now c.args.ticks) name (g.W.Write.contents c.args.out.now) (g.W.Write.contents c.stats_of_one.new.out)))
+    (PutsFigures c.args.form (world_at c.args.config.now c.args.files.now 0) c.args.ticks name (g.W.Write.contents c.args.out.now) (g.W.Write.contents c.stats_of_one.new.out)))
     (sym c.in-Some.is) c.stats_of_one.ensures.written
 
 pub returns-in-None-clause-written : goal.returns-in-None-clause-written
 returns-in-None-clause-written g c =
     subst
     (λ (name : Option (Bor (List ℕ))). OnOk c.stats_of_all.result
-    (PutsFigures c.args.form (world_at c.args.config.now c.args.files.now c.args.ticks) name (g.W.Write.contents c.args.out.now) (g.W.Write.contents c.stats_of_all.new.out)))
+    (PutsFigures c.args.form (world_at c.args.config.now c.args.files.now 0) c.args.ticks name (g.W.Write.contents c.args.out.now) (g.W.Write.contents c.stats_of_all.new.out)))
     (sym c.in-None.is) c.stats_of_all.ensures.written
