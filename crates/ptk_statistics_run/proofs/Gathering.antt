@@ -2,20 +2,21 @@
 use Rattle.std.proofs.Common.{◌≡◌, ◌≢◌, ℕ, suc, ◌+◌, ◌<◌, ◌≤◌, List, length, refl, sym, subst, ◌∙◌, ap, arith, inl, inr, add-one, get_or-set_other, get_or-set_same}
 use Rattle.std.specs.Prelude.{slice_index_or, slice_set}
 use Rattle.std.proofs.lemmas.Bool.{cases_order}
-use Rattle.std.proofs.lemmas.List.{get_or_default}
+use Rattle.std.proofs.lemmas.List.{get_or_default, length-set}
 use Rattle.ptk_statistics_figures.specs.Threads.{new_thread}
 use Rattle.ptk_statistics_figures.specs.declared.doing.Doing.TheVariants as doings
 use Rattle.ptk_statistics_figures.specs.declared.mutex.MutexStatistics.{MutexStatistics}
 use Rattle.ptk_statistics_figures.specs.declared.thread.ThreadStatistics.{ThreadStatistics}
 use Rattle.ptk_statistics_run.specs.Gathering.{with_each_of}
 
--- the first n are what f makes of them, each by its number from 1, and the others are as they were
+-- there are as many as before; the first n are what f makes of them, each by its number from 1, and the others are as they were
 pub record AreMadeTo {A : Type 0} (f : ℕ → A → A) (n : ℕ) (before after : List A) : Type 0 where
+  pub count : length after ≡ length before
   pub made : (place : ℕ) (default : A) → place < n → slice_index_or after place default ≡ f (place + 1) (slice_index_or before place default)
   pub later : (place : ℕ) (default : A) → n ≤ place → slice_index_or after place default ≡ slice_index_or before place default
 
 pub none_made : {A : Type 0} (f : ℕ → A → A) (before : List A) → AreMadeTo f 0 before before
-none_made f before = record { made = λ place default below. absurd (omega (arith, below)); later = λ place default past. refl }
+none_made f before = record { count = refl; made = λ place default below. absurd (omega (arith, below)); later = λ place default past. refl }
 
 module _ {A : Type 0} (f : ℕ → A → A) (n t : ℕ) (before after : List A) (item new : A)
     (within : n < length before) (kept : n < length after) (number : t ≡ n + 1) (so : AreMadeTo f n before after)
@@ -42,7 +43,7 @@ module _ {A : Type 0} (f : ℕ → A → A) (n t : ℕ) (before after : List A) 
       get_or-set_other after n place new default other ∙ so.later place default (omega (arith, past))
 
   pub one_made : AreMadeTo f (n + 1) before (slice_set after n new)
-  one_made = record { made = made_more; later = later_more }
+  one_made = record { count = length-set after n new ∙ so.count; made = made_more; later = later_more }
 
 -- what f says of one thread more
 pub one_of_each : (f : ℕ → ThreadStatistics → List MutexStatistics → List MutexStatistics) (threads : List ThreadStatistics) (n t : ℕ) (item : ThreadStatistics) (first mutexes : List MutexStatistics)

@@ -162,10 +162,11 @@ with_each_of f threads (suc n) mutexes = f (suc n) (slice_index_or threads n (ne
 abbrev pub with_all_waits : (ThreadNumber → ThreadStatistics → List MutexStatistics → List MutexStatistics) → List ThreadStatistics → List MutexStatistics → List MutexStatistics
 with_all_waits f threads mutexes = with_each_of f threads (min (length threads) THREAD_LIMIT) mutexes
 
--- each of a list is what f makes of it by its number, from 1 up to the greatest that there is (own)
+-- there are as many as before, and each of a list is what f makes of it by its number, from 1 up to the greatest that there is (own)
 abbrev pub AreMadeBy : {A : Type 0} → (ℕ → A → A) → ℕ → List A → List A → Type 0
 AreMadeBy {A} f greatest before after =
-    (place : ℕ) (default : A) → place < length before → place < greatest → slice_index_or after place default ≡ f (place + 1) (slice_index_or before place default)
+    (length after ≡ length before)
+    × ((place : ℕ) (default : A) → place < length before → place < greatest → slice_index_or after place default ≡ f (place + 1) (slice_index_or before place default))
 
 -- ---- the first tick and the last
 

@@ -17,4 +17,4 @@ loop-i-preserved c =
     (c.begin_with.ensures ∙ ap (λ (activity : Activity). begun activity (slice_index_or c.loop-i.threads c.loop-i.i c.index-threads-i.result)) c.activity-activity.ensures)
 
 pub returns : goal.returns
-returns c = λ place default within few. c.loop-i.invariant.made place default (omega (arith, within, few))
+returns c = (c.loop-i.invariant.count, λ place default within few. c.loop-i.invariant.made place default (omega (arith, within, few)))

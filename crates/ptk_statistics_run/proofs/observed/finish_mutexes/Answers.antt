@@ -12,4 +12,4 @@ loop-i-preserved c =
     c.index-mutexes-i.result c.finish_mutex.new.mutex (omega arith) (omega arith) refl c.loop-i.invariant c.finish_mutex.ensures
 
 pub returns : goal.returns
-returns c = λ place default within few. c.loop-i.invariant.made place default (omega (arith, within))
+returns c = (c.loop-i.invariant.count, λ place default within few. c.loop-i.invariant.made place default (omega (arith, within)))

@@ -16,4 +16,4 @@ loop-i-preserved c =
     (c.look_at_owner.ensures ∙ ap (λ (owner : Option ℕ). with_owner owner c.args.at (slice_index_or c.loop-i.mutexes c.loop-i.i c.index-mutexes-i.result)) c.owner_thread-owner.ensures)
 
 pub returns : goal.returns
-returns c = λ place default within few. c.loop-i.invariant.made place default (omega (arith, within, few))
+returns c = (c.loop-i.invariant.count, λ place default within few. c.loop-i.invariant.made place default (omega (arith, within, few)))

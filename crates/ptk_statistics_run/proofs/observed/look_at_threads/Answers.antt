@@ -27,7 +27,7 @@ loop-i-preserved c = record {
 }
 
 pub returns-clause-threads : goal.returns-clause-threads
-returns-clause-threads c = λ place default within few. c.loop-i.invariant.threads.made place default (omega (arith, within, few))
+returns-clause-threads c = (c.loop-i.invariant.threads.count, λ place default within few. c.loop-i.invariant.threads.made place default (omega (arith, within, few)))
 
 pub returns-clause-mutexes : goal.returns-clause-mutexes
 returns-clause-mutexes c =
