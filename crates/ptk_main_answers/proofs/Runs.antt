@@ -1,6 +1,7 @@
 -- Where a run ends.
-use Rattle.std.proofs.Common.{◌≡◌, ◌∙◌, ◌≤◌, ℕ, List, Option, false, inl, inr, sym, ap, subst, rules, Bool, true, Result, Ok, Err}
-use Rattle.std.specs.Prelude.{◌⊎◌, IfErr, IsErrAnd, IsTrue}
+use Rattle.std.proofs.Common.{◌≡◌, ◌∙◌, ◌+◌, ◌*◌, ◌<◌, ◌≤◌, ℕ, List, Option, false, inl, inr, refl, sym, ap, subst, arith, min, rules, Bool, true, Result, Ok, Err}
+use Rattle.std.specs.Prelude.{◌⊎◌, ◌↔◌, IfErr, IsErrAnd, IsTrue, if◌then◌else◌, length}
+use Rattle.std.proofs.lemmas.Bool.{cases_order}
 use Rattle.ptk_config.specs.Configuration.{Configuration}
 use Rattle.ptk_image.specs.NamedFiles.{NamedFile}
 use Rattle.std.specs.Borrow.{Bor}
@@ -9,61 +10,124 @@ use Rattle.ptk_main_faults.specs.declared.fault.Fault.{Fault}
 use Rattle.ptk_main_faults.specs.declared.fault.Fault.TheVariants.{FailedOn}
 use Rattle.ptk_main_faults.specs.declared.fault.FailureKind.{FailureKind}
 use Rattle.ptk_main_faults.specs.Told.{text}
-use Rattle.ptk_main_runs.specs.World.{World, at_tick, world_at}
-use Rattle.ptk_main_answers.specs.Expectations.{AreHalted, IsFailed, IsFailedOn, IsFailure, IsNoFailure, IsPassed, IsReported, IsUnlike}
+use Rattle.ptk_main_runs.specs.Told.{is_halted, status_in}
+use Rattle.ptk_main_runs.specs.World.{World, at_tick, state_of, world_at}
+use Rattle.ptk_main_answers.specs.Expectations.{AreHalted, IsEnd, IsFailed, IsFailedOn, IsFailure, IsLook, IsNoFailure, IsOnWay, IsPassed, IsReported, IsUnlike}
 use Rattle.ptk_main_answers.specs.Images.{part_name}
 use Rattle.ptk_main_answers.specs.declared.run.RunQuestion.{RunQuestion}
+use Rattle.ptk_main_answers.specs.declared.run.TheConstants.{HALT_STRIDE, WATCH_STRIDE}
+
+pub clash : (b : Bool) → IsTrue b → b ≡ false → ⊥
+clash true h e = absurd cc
+clash false h e = search rules
+
+-- ---- on the way
+
+-- a partition has not halted
+pub not_all : (w : World) (i p : ℕ) → p ≡ i → i < length w.config.sections → is_halted (status_in (state_of w p).part) ≡ false → IsTrue false ↔ AreHalted w
+not_all w i p same within going = (
+  λ h. absurd (clash false h refl),
+  λ all. absurd (clash (is_halted (status_in (state_of w p).part)) (all p (omega (arith, same, within))) going),
+)
+
+pub way_begins : (until_halted : Bool) (last : ℕ) (w : World) → w.tick ≡ 0 → IsOnWay until_halted last w
+way_begins until_halted last w begun = record {
+  within = omega (arith, begun);
+  look = λ early. (0, omega (arith, begun));
+  first = λ asked k before halted. absurd (omega (arith, before, begun));
+}
+
+look_on : (tick stride n : ℕ) → IsLook tick → stride ≡ n * HALT_STRIDE → IsLook (tick + stride)
+look_on tick stride n at is = (at.0 + n, omega (arith, at.1, is))
+
+-- a multiple before the next one is before this one, or is this one
+this_or_before : (tick k : ℕ) → IsLook tick → k * HALT_STRIDE < tick + HALT_STRIDE → (k * HALT_STRIDE < tick) ⊎ (k * HALT_STRIDE ≡ tick)
+this_or_before tick k at before = elim (cases_order k at.0) [
+  | inl same ↦ inr (ap (λ (n : ℕ). n * HALT_STRIDE) same ∙ sym at.1)
+  | inr order ↦ elim order [ inl earlier ↦ inl (omega (arith, earlier, at.1)) | inr later ↦ absurd (omega (arith, later, before, at.1)) ]
+]
+
+-- where not every partition has halted, that is so up to the next multiple
+none_before : (start old new : World) → IsLook old.tick → ((k : ℕ) → k * HALT_STRIDE < old.tick → ¬ AreHalted (at_tick (k * HALT_STRIDE) old)) → ¬ AreHalted old → old ≡ at_tick old.tick start
+    → new ≡ at_tick new.tick old → new.tick ≤ old.tick + HALT_STRIDE → (k : ℕ) → k * HALT_STRIDE < new.tick → ¬ AreHalted (at_tick (k * HALT_STRIDE) new)
+none_before start old new at before here is run far k under halted =
+    let there : AreHalted (at_tick (k * HALT_STRIDE) old) = subst AreHalted (ap (at_tick (k * HALT_STRIDE)) run) halted in
+    elim (this_or_before old.tick k at (omega (arith, under, far))) [
+      | inl earlier ↦ before k earlier there
+      | inr same ↦ here (subst AreHalted (ap (λ (n : ℕ). at_tick n old) same ∙ (ap (at_tick old.tick) is ∙ sym is)) there)
+    ]
+
+-- a run that is not over goes on to the next multiple, or to the last tick
+pub way_on : (until_halted : Bool) (last stride : ℕ) (start old new : World) → IsOnWay until_halted last old → old.tick < last → ¬ (IsTrue until_halted × AreHalted old) → old ≡ at_tick old.tick start
+    → new ≡ at_tick new.tick old → new.tick ≡ min (old.tick + stride) last → stride ≡ (if until_halted then HALT_STRIDE else WATCH_STRIDE) → IsOnWay until_halted last new
+way_on true last stride start old new way early going is run reached one =
+    let far : stride ≡ HALT_STRIDE = one in
+    record {
+      within = omega (arith, reached);
+      look = λ short.
+          let to : old.tick + stride ≡ new.tick = omega (arith, short, reached) in
+          subst IsLook to (look_on old.tick stride 1 (way.look early) (omega (arith, far)));
+      first = λ asked. none_before start old new (way.look early) (way.first asked) (λ halted. going (asked, halted)) is run (omega (arith, reached, far));
+    }
+way_on false last stride start old new way early going is run reached one =
+    let far : stride ≡ WATCH_STRIDE = one in
+    record {
+      within = omega (arith, reached);
+      look = λ short.
+          let to : old.tick + stride ≡ new.tick = omega (arith, short, reached) in
+          subst IsLook to (look_on old.tick stride 1024 (way.look early) (omega (arith, far)));
+      first = λ asked k under halted. absurd (clash false asked refl);
+    }
+
+-- ---- at the end
 
 -- a booted system that went on is that of the tick that it reached
 reached : (config : Configuration) (files : List NamedFile) (booted w : World) → booted ≡ world_at config files 0 → w ≡ at_tick w.tick booted → w ≡ world_at config files w.tick
 reached config files booted w boot run = run ∙ ap (at_tick w.tick) boot
 
 pub passed_at : (question : RunQuestion) (config : Configuration) (files : List NamedFile) (booted w : World) (old new : Option (List ℕ)) → booted ≡ world_at config files 0 → w ≡ at_tick w.tick booted
-    → w.tick ≤ question.ticks → (w.tick ≡ question.ticks) ⊎ (IsTrue question.until_halted × AreHalted w) → IsReported question w old new → IsNoFailure question.fail_on w
+    → IsEnd question.until_halted question.ticks w → IsReported question w old new → IsNoFailure question.fail_on w
     → (n : ℕ) × IsPassed question (world_at config files n) old new
-passed_at question config files booted w old new boot run within end reported partitions = (
+passed_at question config files booted w old new boot run end reported partitions = (
   w.tick,
   subst (λ (u : World). IsPassed question u old new) (reached config files booted w boot run)
-      (record { end = record { within = within; end = end }; reported = reported; partitions = partitions }),
+      (record { end = end; reported = reported; partitions = partitions }),
 )
 
 pub failed_at : (question : RunQuestion) (config : Configuration) (files : List NamedFile) (booted w : World) (old new : Option (List ℕ)) (fault : Fault) → booted ≡ world_at config files 0 → w ≡ at_tick w.tick booted
-    → w.tick ≤ question.ticks → (w.tick ≡ question.ticks) ⊎ (IsTrue question.until_halted × AreHalted w)
-    → IsUnlike question w old new fault ⊎ (IsReported question w old new × IsFailedOn question.fail_on w fault)
+    → IsEnd question.until_halted question.ticks w → IsUnlike question w old new fault ⊎ (IsReported question w old new × IsFailedOn question.fail_on w fault)
     → (n : ℕ) × IsFailed question (world_at config files n) old new fault
-failed_at question config files booted w old new fault boot run within end why = (
+failed_at question config files booted w old new fault boot run end why = (
   w.tick,
   subst (λ (u : World). IsFailed question u old new fault) (reached config files booted w boot run)
-      (record { end = record { within = within; end = end }; why = why }),
+      (record { end = end; why = why }),
 )
 
 -- a run whose report is as expected fails by a partition
 pub failed_on_at : (question : RunQuestion) (config : Configuration) (files : List NamedFile) (booted w : World) (old new : Option (List ℕ)) (p : ℕ) (kind : FailureKind) (name : Bor (List ℕ)) → booted ≡ world_at config files 0
-    → w ≡ at_tick w.tick booted → w.tick ≤ question.ticks → (w.tick ≡ question.ticks) ⊎ (IsTrue question.until_halted × AreHalted w) → IsReported question w old new
+    → w ≡ at_tick w.tick booted → IsEnd question.until_halted question.ticks w → IsReported question w old new
     → IsFailure question.fail_on w p kind → name.now ≡ part_name config p → (n : ℕ) × IsFailed question (world_at config files n) old new (FailedOn name kind)
-failed_on_at question config files booted w old new p kind name boot run within end reported failure named =
+failed_on_at question config files booted w old new p kind name boot run end reported failure named =
     let named_there : name.now ≡ part_name w.config p = named ∙ ap (λ (u : World). part_name u.config p) (sym (reached config files booted w boot run)) in
-    failed_at question config files booted w old new (FailedOn name kind) boot run within end
+    failed_at question config files booted w old new (FailedOn name kind) boot run end
     (inr (reported, (p, kind, failure, ap (λ (bytes : List ℕ). FailedOn (text bytes) kind) named_there)))
 
 -- a report that could not be written, or is not the expected one
 pub unlike_at : (question : RunQuestion) (config : Configuration) (files : List NamedFile) (booted w : World) (old new : Option (List ℕ)) → booted ≡ world_at config files 0 → w ≡ at_tick w.tick booted
-    → w.tick ≤ question.ticks → (w.tick ≡ question.ticks) ⊎ (IsTrue question.until_halted × AreHalted w) → (fault : Fault) → IsHostFault fault ⊎ IsUnlike question w old new fault
+    → IsEnd question.until_halted question.ticks w → (fault : Fault) → IsHostFault fault ⊎ IsUnlike question w old new fault
     → IsHostFault fault ⊎ ((n : ℕ) × IsFailed question (world_at config files n) old new fault)
-unlike_at question config files booted w old new boot run within end fault (inl host) = inl host
-unlike_at question config files booted w old new boot run within end fault (inr unlike) = inr (failed_at question config files booted w old new fault boot run within end (inl unlike))
+unlike_at question config files booted w old new boot run end fault (inl host) = inl host
+unlike_at question config files booted w old new boot run end fault (inr unlike) = inr (failed_at question config files booted w old new fault boot run end (inl unlike))
 
 -- a fault that is passed on stays what it was
 pub passed_on : {T : Type 0} (P : Fault → Type 0) (r : Result T Fault) (e : Fault) → IsErrAnd r (λ f. f ≡ e) → P e → IfErr r P
 passed_on P (Ok a) e is h = absurd is
 passed_on P (Err f) e is h = subst P (sym is) h
 
-clash : (b : Bool) → IsTrue b → b ≡ false → ⊥
-clash true h e = absurd cc
-clash false h e = search rules
-
 -- a run with no earlier end is at the last tick
 pub at_last : (question : RunQuestion) (config : Configuration) (files : List NamedFile) (booted w : World) → booted ≡ world_at config files 0 → w ≡ at_tick w.tick booted
-    → (w.tick ≡ question.ticks) ⊎ (IsTrue question.until_halted × AreHalted w) → question.until_halted ≡ false → w ≡ world_at config files question.ticks
-at_last question config files booted w boot run (inl e) last = reached config files booted w boot run ∙ ap (world_at config files) e
-at_last question config files booted w boot run (inr h) last = absurd (clash question.until_halted h.0 last)
+    → IsEnd question.until_halted question.ticks w → question.until_halted ≡ false → w ≡ world_at config files question.ticks
+at_last question config files booted w boot run end last = elim end.end [
+  | inl e ↦ reached config files booted w boot run ∙ ap (world_at config files) e
+  | inr h ↦ absurd (clash question.until_halted h.0 last)
+]

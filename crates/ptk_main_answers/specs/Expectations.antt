@@ -1,9 +1,9 @@
 -- Whether a run is as it is expected to be.
-use Rattle.std.specs.Prelude.{◌≡◌, ◌≢◌, ◌<◌, ◌≤◌, ◌+◌, ◌==◌, ◌⊎◌, ℕ, List, Option, Some, None, IfSome, IsSomeAnd, IsTrue, true, count_by, length, min, slice_get, take, if◌then◌else◌}
+use Rattle.std.specs.Prelude.{◌≡◌, ◌≢◌, ◌<◌, ◌≤◌, ◌+◌, ◌*◌, ◌==◌, ◌⊎◌, ℕ, Bool, List, Option, Some, None, IfSome, IsSomeAnd, IsTrue, true, count_by, length, min, slice_get, take, if◌then◌else◌}
 use Rattle.std.specs.Io.KnownBytes.{Appends}
 use Rattle.ptk_main_runs.specs.Shown.{report_of}
 use Rattle.ptk_main_runs.specs.Told.{is_halted, status_in}
-use Rattle.ptk_main_runs.specs.World.{World, state_of}
+use Rattle.ptk_main_runs.specs.World.{World, at_tick, state_of}
 use Rattle.ptk_main_runs.specs.PartStatus.{PartStatus}
 use Rattle.ptk_main_runs.specs.PartStatus.TheVariants as status
 use Rattle.ptk_main_faults.specs.declared.fault.FailureKind.{FailureKind}
@@ -17,6 +17,7 @@ use Rattle.ptk_main_line.specs.declared.requests.Format.TheVariants as form
 use Rattle.ptk_main_answers.specs.Documents.{document_text}
 use Rattle.ptk_main_answers.specs.Images.{part_name}
 use Rattle.ptk_main_answers.specs.declared.run.RunQuestion.{RunQuestion}
+use Rattle.ptk_main_answers.specs.declared.run.TheConstants.{HALT_STRIDE}
 
 -- the place is the least at which the lists differ: one of them may end there (own)
 pub record IsFirstOther (xs ys : List ℕ) (place : ℕ) : Type 0 where
@@ -56,10 +57,20 @@ IsNoFailure kinds world = (q : ℕ) → q < length world.config.sections → fai
 
 -- ---- a run against what is asked of it
 
--- a system is one at which the run may end: at the last tick, or on request at one up to it at which every partition has halted (own)
-pub record IsEnd (question : RunQuestion) (world : World) : Type 0 where
-  pub within : world.tick ≤ question.ticks
-  pub end : (world.tick ≡ question.ticks) ⊎ (IsTrue question.until_halted × AreHalted world)
+-- a tick at which a run may end on request: a multiple of HALT_STRIDE (own)
+abbrev pub IsLook : ℕ → Type 0
+IsLook tick = (k : ℕ) × (tick ≡ k * HALT_STRIDE)
+
+-- a run to a last tick has come to this system: to a multiple of HALT_STRIDE, or to the last tick; on request at no multiple before it every partition has halted (own)
+pub record IsOnWay (until_halted : Bool) (last : ℕ) (world : World) : Type 0 where
+  pub within : world.tick ≤ last
+  pub look : world.tick < last → IsLook world.tick
+  pub first : IsTrue until_halted → (k : ℕ) → k * HALT_STRIDE < world.tick → ¬ AreHalted (at_tick (k * HALT_STRIDE) world)
+
+-- it ends there: at the last tick, or on request where every partition has halted, which is the first such multiple (own)
+pub record IsEnd (until_halted : Bool) (last : ℕ) (world : World) : Type 0 where
+  pub way : IsOnWay until_halted last world
+  pub end : (world.tick ≡ last) ⊎ (IsTrue until_halted × AreHalted world)
 
 -- the report of a system in a form (own)
 abbrev pub report_in : Format → World → List ℕ
@@ -86,11 +97,11 @@ IsFailedOn kinds world fault = (p : ℕ) × (kind : FailureKind) × IsFailure ki
 
 -- a run of which the system is the end has what it was asked for (own)
 pub record IsPassed (question : RunQuestion) (world : World) (old new : Option (List ℕ)) : Type 0 where
-  pub end : IsEnd question world
+  pub end : IsEnd question.until_halted question.ticks world
   pub reported : IsReported question world old new
   pub partitions : IsNoFailure question.fail_on world
 
 -- a run of which the system is the end has not: the report is another one, or a partition is of a kind to fail on (own)
 pub record IsFailed (question : RunQuestion) (world : World) (old new : Option (List ℕ)) (fault : Fault) : Type 0 where
-  pub end : IsEnd question world
+  pub end : IsEnd question.until_halted question.ticks world
   pub why : IsUnlike question world old new fault ⊎ (IsReported question world old new × IsFailedOn question.fail_on world fault)

@@ -1,11 +1,11 @@
 //! The answer to a run.
 
-ghost use Rattle.std.specs.Prelude.{◌≡◌, ◌≤◌, ◌<◌, ◌⊎◌, ℕ, List, None, IfErr, IfSome, OnOk, MatchResult, IsTrue, false};
+ghost use Rattle.std.specs.Prelude.{◌≡◌, ◌+◌, ◌≤◌, ◌<◌, ◌⊎◌, ◌↔◌, ℕ, List, None, IfErr, IfSome, OnOk, MatchResult, IsTrue, false, min, if◌then◌else◌};
 ghost use Rattle.std.specs.Io.KnownBytes.{Appends};
 ghost use Rattle.ptk_words.specs.declared.TheConstants.{LAST_TICK};
 ghost use Rattle.ptk_main_faults.specs.HostFaults.{IsHostFault};
 ghost use Rattle.ptk_main_runs.specs.World.{at_tick, world_at};
-ghost use Rattle.ptk_main_answers.specs.Expectations.{AreHalted, IsFailed, IsNoFailure, IsPassed, IsReported, IsUnlike, report_in};
+ghost use Rattle.ptk_main_answers.specs.Expectations.{AreHalted, IsEnd, IsFailed, IsNoFailure, IsPassed, IsReported, IsUnlike, report_in};
 ghost use Rattle.ptk_main_answers.specs.Refusals.{IsFaultOf, missing_image};
 ghost use Rattle.ptk_main_answers.specs.Watching.{HasWatched};
 
@@ -90,31 +90,46 @@ pub fn run_answer<'a, V: Watch, W: Write>(
     }
 }
 
-/// Runs a booted system to a tick, or where it is asked for to one at which every partition has halted: that is looked
-/// at each `HALT_STRIDE` ticks.
+/// Runs a booted system to a tick, or where it is asked for to the first multiple of `HALT_STRIDE` ticks at which every
+/// partition has halted.
 fn run_watched<V: Watch>(system: &mut System<'_>, last: Tick, until_halted: bool, watch: &mut V)
     requires small { last ≤ LAST_TICK }
-    requires start { system.old.tick ≤ last }
+    requires start { system.old.tick ≡ 0 }
     ensures run { system.new ≡ at_tick system.new.tick system.old }
-    ensures within { system.new.tick ≤ last }
-    ensures end { (system.new.tick ≡ last) ⊎ (IsTrue until_halted × AreHalted system.new) }
+    ensures end { IsEnd until_halted last system.new }
     ensures watched { (ticks : List ℕ) × HasWatched V.sees last system.old.tick system.new.tick ticks watch.old watch.new }
 {
     system.states_are_alone();
-    let stride = if until_halted {
-        HALT_STRIDE
-    } else {
-        WATCH_STRIDE
-    };
+    let stride = stride_of(until_halted);
     let mut tick = system.tick();
     while tick.ticks() < last.ticks() {
-        if until_halted && all_halted(system) {
+        if is_over(system, until_halted) {
             return;
         }
         go_on(system, last, stride);
         tick = system.tick();
         watch.reached(tick, last);
     }
+}
+
+/// The number of ticks between two stops on the way.
+fn stride_of(until_halted: bool) -> u64
+    ensures stride { result ≡ (if until_halted then HALT_STRIDE else WATCH_STRIDE) }
+    ensures some { 0 < result }
+    ensures few { result ≤ LAST_TICK }
+{
+    if until_halted {
+        HALT_STRIDE
+    } else {
+        WATCH_STRIDE
+    }
+}
+
+/// Whether a run is to end at the tick that it has reached: on request, where every partition has halted.
+fn is_over(system: &System<'_>, until_halted: bool) -> bool
+    ensures { IsTrue result ↔ (IsTrue until_halted × AreHalted system.now) }
+{
+    until_halted && all_halted(system)
 }
 
 /// Goes on by a stride, and not past the last tick.
@@ -124,8 +139,7 @@ fn go_on(system: &mut System<'_>, last: Tick, stride: u64)
     requires some { 0 < stride }
     requires few { stride ≤ LAST_TICK }
     ensures run { system.new ≡ at_tick system.new.tick system.old }
-    ensures later { system.old.tick < system.new.tick }
-    ensures within { system.new.tick ≤ last }
+    ensures reached { system.new.tick ≡ min (system.old.tick + stride) last }
 {
     let next = system.tick().ticks() + stride;
     let end = next.min(last.ticks());
@@ -134,7 +148,7 @@ fn go_on(system: &mut System<'_>, last: Tick, stride: u64)
 
 /// Whether every partition has halted.
 fn all_halted(system: &System<'_>) -> bool
-    ensures { IsTrue result → AreHalted system.now }
+    ensures { IsTrue result ↔ AreHalted system.now }
 {
     for i in 0..system.parts() {
         if !system.status(PartId::new(i as u8)).is_halted() {

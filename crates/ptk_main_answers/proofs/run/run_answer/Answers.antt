@@ -21,16 +21,16 @@ returns-clause-watched g c last =
 
 pub returns-clause-ended : goal.returns-clause-ended
 returns-clause-ended g c =
-    passed_at c.args.question.now c.args.config.now c.args.files.now c.in-Ok.system c.run_watched.new.system _ _ c.in-Ok.ensures.booted c.run_watched.ensures.run c.run_watched.ensures.within c.run_watched.ensures.end
+    passed_at c.args.question.now c.args.config.now c.args.files.now c.in-Ok.system c.run_watched.new.system _ _ c.in-Ok.ensures.booted c.run_watched.ensures.run c.run_watched.ensures.end
     c.in_ok-put_answer.ensures.reported c.in-None.ensures
 
 pub returns-in-Some-clause-failed : goal.returns-in-Some-clause-failed
 returns-in-Some-clause-failed g c whole =
-    inr (failed_on_at c.args.question.now c.args.config.now c.args.files.now c.in-Ok.system c.run_watched.new.system _ _ _ _ c.part_name.result c.in-Ok.ensures.booted c.run_watched.ensures.run c.run_watched.ensures.within c.run_watched.ensures.end
+    inr (failed_on_at c.args.question.now c.args.config.now c.args.files.now c.in-Ok.system c.run_watched.new.system _ _ _ _ c.part_name.result c.in-Ok.ensures.booted c.run_watched.ensures.run c.run_watched.ensures.end
     c.in_ok-put_answer.ensures.reported c.in-Some.ensures c.part_name.ensures)
 
 pub returns-in_err-put_answer-clause-failed : goal.returns-in_err-put_answer-clause-failed
 returns-in_err-put_answer-clause-failed g c =
     passed_on _ c.from_residual.result c.in_err-put_answer.field-0.0 c.from_residual.ensures.1
-    (λ whole. unlike_at c.args.question.now c.args.config.now c.args.files.now c.in-Ok.system c.run_watched.new.system _ _ c.in-Ok.ensures.booted c.run_watched.ensures.run c.run_watched.ensures.within c.run_watched.ensures.end
+    (λ whole. unlike_at c.args.question.now c.args.config.now c.args.files.now c.in-Ok.system c.run_watched.new.system _ _ c.in-Ok.ensures.booted c.run_watched.ensures.run c.run_watched.ensures.end
     c.in_err-put_answer.field-0.0 c.in_err-put_answer.ensures.failed)
