@@ -1,8 +1,9 @@
 //! The answers to a trace: its lines as they are, or in words.
 
-ghost use Rattle.std.specs.Prelude.{◌≡◌, ◌≤◌, ℕ, None, OnOk, MatchResult};
+ghost use Rattle.std.specs.Prelude.{◌≡◌, ◌≢◌, ◌≤◌, ℕ, None, IfErr, OnOk, MatchResult};
 ghost use Rattle.std.specs.Io.KnownBytes.{Appends};
 ghost use Rattle.ptk_words.specs.declared.TheConstants.{LAST_TICK};
+ghost use Rattle.ptk_main_faults.specs.HostFaults.{IsHostFault};
 ghost use Rattle.ptk_main_runs.specs.World.{world_at};
 ghost use Rattle.ptk_main_runs.specs.Parts.{part_named};
 ghost use Rattle.ptk_main_answers.specs.Answers.{trace_of};
@@ -21,7 +22,8 @@ use std::alloc::Global;
 use std::io::Write;
 
 /// The lines of the last steps of the partition of this name. `Fault::NoPartition` where no partition has the name,
-/// else `Fault::MissingFile` for the first image that is not there, `Fault::NoMemory` or `Fault::WriteFailed`.
+/// else `Fault::MissingFile` for the first image that is not there, `Fault::NoMemory` or `Fault::WriteFailed`. At a
+/// fault the writer is as it was, unless it failed itself.
 pub fn trace_answer<'a, W: Write>(
     alloc: Global,
     config: &'a Config,
@@ -35,6 +37,7 @@ pub fn trace_answer<'a, W: Write>(
         (trace_of (part_named config.now name.now) (world_at config.now files.now ticks))) }
     ensures refused { let refusal = refused_trace (part_named config.now name.now) config.now files.now name.now in
         MatchResult result (λ _. refusal ≡ None) (IsFaultOf refusal refusal) }
+    ensures silent { IfErr result (λ fault. fault ≢ Fault.WriteFailed → out.new ≡ out.old) }
 {
     match trace_with(alloc, config, files, ticks, name, out) {
         Ok(()) => Ok(()),
@@ -44,7 +47,8 @@ pub fn trace_answer<'a, W: Write>(
 
 /// The lines of the last steps of the partition of this name that the filter shows, in words, as `decoded_trace_with`
 /// writes them. `Fault::NoPartition` where no partition has the name, else `Fault::MissingFile` for the first image
-/// that is not there, `Fault::NoMemory` or `Fault::WriteFailed`.
+/// that is not there, `Fault::NoMemory` or `Fault::WriteFailed`. At a fault the writer is as it was, unless memory for
+/// the words was refused or it failed itself.
 pub fn decoded_answer<'a, W: Write>(
     alloc: Global,
     config: &'a Config,
@@ -60,6 +64,7 @@ pub fn decoded_answer<'a, W: Write>(
         PutsWords filter.now symbols.now config.now files.now ticks p (W.contents out.old) (W.contents out.new)) }
     ensures refused { let refusal = refused_trace (part_named config.now name.now) config.now files.now name.now in
         MatchResult result (λ _. refusal ≡ None) (IsFaultOf refusal refusal) }
+    ensures silent { IfErr result (λ fault. ¬ IsHostFault fault → out.new ≡ out.old) }
 {
     match decoded_trace_with(alloc, config, files, ticks, name, symbols, filter, out) {
         Ok(()) => Ok(()),

@@ -1,6 +1,6 @@
 //! Whether a configuration and the images that it names are in order.
 
-ghost use Rattle.std.specs.Prelude.{◌≡◌, ◌<◌, None, Some, IfErr, IfSome, OnOk, MatchResult, length, option_map};
+ghost use Rattle.std.specs.Prelude.{◌≡◌, ◌≢◌, ◌<◌, None, Some, IfErr, IfSome, OnOk, MatchResult, length, option_map};
 ghost use Rattle.std.specs.Option.{option_or};
 ghost use Rattle.std.specs.Io.KnownBytes.{Appends};
 ghost use Rattle.ptk_main_runs.specs.World.{section_at};
@@ -18,7 +18,8 @@ use std::alloc::Global;
 use std::io::Write;
 
 /// Writes `ok` and a newline where every image that the configuration names is there, is sound and fits its partition.
-/// A boot refuses each that does not. A missing file comes before any other fault of an image.
+/// A boot refuses each that does not. A missing file comes before any other fault of an image. At a fault the writer is
+/// as it was, unless it failed itself.
 pub fn check_with<'a, W: Write>(
     alloc: Global,
     config: &'a Config,
@@ -28,6 +29,7 @@ pub fn check_with<'a, W: Write>(
     ensures written { OnOk result (Appends (W.contents out.old) (W.contents out.new) ok_line) }
     ensures refused { let refusal = option_or (missing_image config.now files.now) (refused_image config.now files.now) in
         MatchResult result (λ _. refusal ≡ None) (IsFaultOf (missing_image config.now files.now) refusal) }
+    ensures silent { IfErr result (λ fault. fault ≢ Fault.WriteFailed → out.new ≡ out.old) }
 {
     match System::boot(alloc, config, files) {
         Ok(system) => match refused_image(config, &system) {
@@ -42,6 +44,7 @@ pub fn check_with<'a, W: Write>(
 fn put_ok<W: Write>(out: &mut W) -> Result<(), Fault<'static>>
     ensures written { OnOk result (Appends (W.contents out.old) (W.contents out.new) ok_line) }
     ensures failed { IfErr result (λ fault. fault ≡ Fault.WriteFailed) }
+    ensures silent { IfErr result (λ fault. fault ≢ Fault.WriteFailed → out.new ≡ out.old) }
 {
     match out.write_all(b"ok\n") {
         Ok(()) => Ok(()),

@@ -14,7 +14,7 @@
 //! - `trace_answer` writes the named partition's trace, `check_with` `ok` and a newline.
 //! - Any other fault is the refusal that is due (no partition of the name, the first missing image, for a check the
 //!   first image that is refused, each by name), out of memory only where nothing is lacking, and a failed write only
-//!   where nothing is refused (`refused`).
+//!   where nothing is refused (`refused`). At a refusal nothing is written (`silent`).
 //! - `difference` is the first byte at which a report is not the expected one, with its line and both bytes, and none
 //!   if and only if they are the same.
 //! - `check_document` writes the answer to a check as JSON: `ok`, or the line of the fault, and the explanation

@@ -32,7 +32,8 @@ pub(crate) fn part_name(config: &Config, p: PartId) -> &str
 
 /// The program's fault for a boot's.
 pub fn boot_fault(config: &Config, fault: BootFault) -> Fault<'_>
-    ensures { told result ≡ boot_fault config.now fault }
+    ensures told { told result ≡ boot_fault config.now fault }
+    ensures memory { fault ≡ BootFault.Memory → result ≡ Fault.NoMemory }
 {
     match fault {
         BootFault::Memory => Fault::NoMemory,
@@ -42,7 +43,9 @@ pub fn boot_fault(config: &Config, fault: BootFault) -> Fault<'_>
 
 /// The program's fault for a run's, where the partition of this name was asked for.
 pub fn run_fault<'a>(config: &'a Config, name: &'a str, fault: RunFault) -> Fault<'a>
-    ensures { told result ≡ run_fault config.now name.now fault }
+    ensures told { told result ≡ run_fault config.now name.now fault }
+    ensures memory { fault ≡ RunFault.Boot BootFault.Memory → result ≡ Fault.NoMemory }
+    ensures write { fault ≡ RunFault.Write → result ≡ Fault.WriteFailed }
 {
     match fault {
         RunFault::Boot(fault) => boot_fault(config, fault),

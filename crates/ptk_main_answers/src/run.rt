@@ -1,6 +1,6 @@
 //! The answer to a run.
 
-ghost use Rattle.std.specs.Prelude.{◌≡◌, ◌+◌, ◌≤◌, ◌<◌, ◌⊎◌, ◌↔◌, ℕ, List, None, IfErr, IfSome, OnOk, MatchResult, IsTrue, false, min, if◌then◌else◌};
+ghost use Rattle.std.specs.Prelude.{◌≡◌, ◌≢◌, ◌+◌, ◌≤◌, ◌<◌, ◌⊎◌, ◌↔◌, ℕ, List, None, IfErr, IfSome, OnOk, MatchResult, IsTrue, false, min, if◌then◌else◌};
 ghost use Rattle.std.specs.Io.KnownBytes.{Appends};
 ghost use Rattle.ptk_words.specs.declared.TheConstants.{LAST_TICK};
 ghost use Rattle.ptk_main_faults.specs.HostFaults.{IsHostFault};
@@ -52,9 +52,10 @@ pub struct RunQuestion<'q> {
     pub fail_on: FailOn,
 }
 
-/// Runs a configuration and writes its report. `Fault::MissingFile` for the first image that is not there, else
-/// `Fault::NoMemory` or `Fault::WriteFailed`, and where the report is written `Fault::Differs` for the first byte at
-/// which it is not the expected one, else `Fault::FailedOn` for the first partition of a kind to fail on.
+/// Runs a configuration and writes its report. `Fault::MissingFile` for the first image that is not there, with the
+/// writer as it was, else `Fault::NoMemory` or `Fault::WriteFailed`, and where the report is written `Fault::Differs`
+/// for the first byte at which it is not the expected one, else `Fault::FailedOn` for the first partition of a kind to
+/// fail on.
 pub fn run_answer<'a, V: Watch, W: Write>(
     alloc: Global,
     config: &'a Config,
@@ -77,6 +78,7 @@ pub fn run_answer<'a, V: Watch, W: Write>(
         MatchResult result (λ _. refusal ≡ None) (λ fault. (refusal ≡ None) ⊎ IsFaultOf refusal refusal fault) }
     ensures failed { IfErr result (λ fault. missing_image config.now files.now ≡ None → IsHostFault fault
         ⊎ ((n : ℕ) × IsFailed question.now (world_at config.now files.now n) (W.contents out.old) (W.contents out.new) fault)) }
+    ensures silent { IfErr result (λ fault. missing_image config.now files.now ≢ None → out.new ≡ out.old) }
 {
     let mut system = match System::boot(alloc, config, files) {
         Ok(system) => system,

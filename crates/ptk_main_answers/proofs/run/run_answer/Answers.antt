@@ -1,6 +1,7 @@
 use Rattle.std.proofs.Common.{ap, inr, subst}
 use Rattle.ptk_main_runs.specs.World.{World}
 use Rattle.ptk_main_answers.specs.Expectations.{IsNoFailure}
+use Rattle.ptk_main_answers.proofs.Refusals.{none_missing}
 use Rattle.ptk_main_answers.proofs.Runs.{at_last, failed_on_at, passed_at, passed_on, unlike_at}
 use Rattle.ptk_main_answers.proofs.Watching.{watched_whole}
 use Rattle.ptk_main_answers.proofs.run.run_answer.Goals as goal
@@ -34,3 +35,11 @@ returns-in_err-put_answer-clause-failed g c =
     passed_on _ c.from_residual.result c.in_err-put_answer.field-0.0 c.from_residual.ensures.1
     (λ whole. unlike_at c.args.question.now c.args.config.now c.args.files.now c.in-Ok.system c.run_watched.new.system _ _ c.in-Ok.ensures.booted c.run_watched.ensures.run c.run_watched.ensures.end
     c.in_err-put_answer.field-0.0 c.in_err-put_answer.ensures.failed)
+
+pub returns-in-Some-clause-silent : goal.returns-in-Some-clause-silent
+returns-in-Some-clause-silent g c lacks = absurd (lacks (none_missing c.args.config.now c.args.files.now c.in-Ok.ensures.missing))
+
+pub returns-in_err-put_answer-clause-silent : goal.returns-in_err-put_answer-clause-silent
+returns-in_err-put_answer-clause-silent g c =
+    passed_on _ c.from_residual.result c.in_err-put_answer.field-0.0 c.from_residual.ensures.1
+    (λ lacks. absurd (lacks (none_missing c.args.config.now c.args.files.now c.in-Ok.ensures.missing)))
