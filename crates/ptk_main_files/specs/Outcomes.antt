@@ -8,33 +8,37 @@ use Rattle.ptk_config.specs.Configuration.{Configuration}
 use Rattle.ptk_config.specs.Sections.{Section}
 use Rattle.ptk_config_places.specs.Refusals.{refusal_of, text_walk}
 use Rattle.ptk_config_explain.specs.Explained.{IsExplained}
+use Rattle.ptk_main_line.specs.declared.requests.Format.{Format}
 use Rattle.ptk_main_line.specs.declared.requests.Format.TheVariants as form
 use Rattle.ptk_main_line.specs.declared.requests.ImpactOptions.{ImpactOptions}
 use Rattle.ptk_main_line.specs.declared.requests.RunOptions.{RunOptions}
 use Rattle.ptk_main_line.specs.declared.requests.TraceOptions.{TraceOptions}
 use Rattle.ptk_main_faults.specs.HostFaults.{IsHostFault}
-use Rattle.ptk_main_faults.specs.Lines.{status_of}
+use Rattle.ptk_main_faults.specs.Lines.{line_of, status_of}
 use Rattle.ptk_main_faults.specs.Told.{text, told}
 use Rattle.ptk_main_faults.specs.declared.fault.Fault.{Fault}
 use Rattle.ptk_main_faults.specs.declared.fault.Fault.TheVariants.{NotText, WriteFailed, NoMemory}
 use Rattle.ptk_main_faults.specs.declared.status.ExitStatus.TheVariants.{Unexpected}
 use Rattle.ptk_main_tools.specs.NamedFiles.{NamedFile}
-use Rattle.ptk_main_tools.specs.Reading.{AreImagesOf, IsImagesFault, IsReadFault, IsSymbolsFileFault}
+use Rattle.ptk_main_tools.specs.Reading.{AreImagesOf, AreSymbolsOf, IsImagesFault, IsReadFault, IsSymbolsFileFault}
 use Rattle.ptk_main_answers.specs.World.{world_at}
 use Rattle.ptk_main_answers.specs.Answers.{ok_line, trace_of}
 use Rattle.ptk_main_answers.specs.Documents.{check_text}
 use Rattle.ptk_main_answers.specs.Expectations.{IsFailed, IsPassed}
 use Rattle.ptk_main_answers.specs.Parts.{part_named}
 use Rattle.ptk_main_answers.specs.Refusals.{IsFaultOf, missing_image, refused_image, refused_trace}
+use Rattle.ptk_main_answers.specs.Worded.{PutsWords}
 use Rattle.ptk_main_answers.specs.declared.run.RunQuestion.{RunQuestion}
 use Rattle.ptk_impact_answers.specs.Counts.{IsClear}
+use Rattle.ptk_impact_answers.specs.Matching.{Renamed}
 use Rattle.ptk_impact_answers.specs.Refusals.{refusal}
 use Rattle.ptk_impact_answers.specs.Renaming.{renames_of}
 use Rattle.ptk_impact_answers.specs.SameRuns.{AreSameRuns}
-use Rattle.ptk_impact_answers.specs.Written.{PutsAnswer}
+use Rattle.ptk_impact_answers.specs.Written.{PutsAnswer, PutsLines}
 use Rattle.ptk_impact_answers.specs.declared.answer.Question.{Question}
 use Rattle.ptk_impact_answers.specs.declared.release.Release.{Release}
 use Rattle.ptk_impact_answers.specs.declared.tally.Tally.{Tally}
+use Rattle.ptk_main_files.specs.Traces.{filter_for}
 
 -- ---- the images that were read
 
@@ -42,23 +46,21 @@ use Rattle.ptk_impact_answers.specs.declared.tally.Tally.{Tally}
 abbrev pub WithImages : List Section → (List NamedFile → Type 0) → Type 0
 WithImages sections P = (files : List NamedFile) × AreImagesOf sections files × P files
 
--- nothing is refused with the images that were read (own)
-abbrev pub IsAccepted : List Section → (List NamedFile → Option Fault) → Type 0
-IsAccepted sections refusal = WithImages sections (λ files. refusal files ≡ None)
-
 -- an image is not read; or with those that were read it is the fault by what is lacking and by the refusal (own)
 abbrev pub IsRefused : List Section → (List NamedFile → Option Fault) → (List NamedFile → Option Fault) → Fault → Type 0
 IsRefused sections lack refusal fault = IsImagesFault sections fault ⊎ WithImages sections (λ files. IsFaultOf (lack files) (refusal files) fault)
+
+-- ---- the writer
+
+-- a fault that is not of the host leaves the writer as it was (own)
+abbrev pub IsSilent : Fault → Option (List ℕ) → Option (List ℕ) → Type 0
+IsSilent fault old new = ¬ IsHostFault fault → new ≡ old
 
 -- ---- a check
 
 -- the first image that is missing, else the first that is refused (own)
 abbrev pub check_refusal : Configuration → List NamedFile → Option Fault
 check_refusal config files = option_or (missing_image config files) (refused_image config files)
-
--- the configuration has all its images, and none is refused (own)
-abbrev pub IsSound : Configuration → Type 0
-IsSound config = IsAccepted config.sections (check_refusal config)
 
 -- the explanation of a text is no text (own)
 abbrev pub IsNoExplanation : Fault → Type 0
@@ -68,18 +70,18 @@ IsNoExplanation fault = told fault ≡ NotText (text (codes "the explanation"))
 abbrev pub IsUnsaid : Fault → Type 0
 IsUnsaid fault = IsNoExplanation fault ⊎ IsHostFault fault
 
--- it is of the host, or the refusal of a check (own)
-abbrev pub IsCheckFault : Configuration → Fault → Type 0
-IsCheckFault config fault = IsHostFault fault ⊎ IsRefused config.sections (missing_image config) (check_refusal config) fault
-
 -- the explanation of a text with these files is written (own)
 abbrev pub PutsExplanation : List ℕ → List NamedFile → Option (List ℕ) → Option (List ℕ) → Type 0
 PutsExplanation bytes files old new = IsExplained files bytes (refusal_of (text_walk bytes)) old new
 
+-- on request the explanation of a text with these files is written, and else nothing (own)
+abbrev pub PutsExplained : Bool → List ℕ → List NamedFile → Option (List ℕ) → Option (List ℕ) → Type 0
+PutsExplained false bytes files old new = new ≡ old
+PutsExplained true bytes files old new = PutsExplanation bytes files old new
+
 -- the line of a check is written, on request behind the explanation (own)
 abbrev pub PutsCheck : Bool → List ℕ → List NamedFile → Option (List ℕ) → Option (List ℕ) → Type 0
-PutsCheck false bytes files old new = Appends old new ok_line
-PutsCheck true bytes files old new = (said : Option (List ℕ)) × PutsExplanation bytes files old said × Appends said new ok_line
+PutsCheck explain bytes files old new = (said : Option (List ℕ)) × PutsExplained explain bytes files old said × Appends said new ok_line
 
 -- the words are the explanation of a text with these files (own)
 abbrev pub IsExplanation : List ℕ → List NamedFile → List ℕ → Type 0
@@ -88,6 +90,35 @@ IsExplanation bytes files words = PutsExplanation bytes files (Some []) (Some wo
 -- the JSON object of a check with this line of a fault is written, with the explanation in it, and a newline (own)
 abbrev pub PutsObject : Option (List ℕ) → List ℕ → List NamedFile → Option (List ℕ) → Option (List ℕ) → Type 0
 PutsObject line bytes files old new = (words : List ℕ) × IsExplanation bytes files words × Appends old new (check_text line words ++ newline)
+
+-- what is asked for of what is sound is written: the line of a check, or its JSON object (own)
+abbrev pub PutsSound : Format → Bool → List ℕ → List NamedFile → Option (List ℕ) → Option (List ℕ) → Type 0
+PutsSound form.Text explain bytes files old new = PutsCheck explain bytes files old new
+PutsSound form.Json explain bytes files old new = PutsObject None bytes files old new
+
+-- what is asked for of a refusal with this line is written: on request the explanation, or the JSON object of a check (own)
+abbrev pub PutsRefusal : Format → Bool → List ℕ → List ℕ → List NamedFile → Option (List ℕ) → Option (List ℕ) → Type 0
+PutsRefusal form.Text explain line bytes files old new = PutsExplained explain bytes files old new
+PutsRefusal form.Json explain line bytes files old new = PutsObject (Some line) bytes files old new
+
+-- the configuration has all its images, none is refused, and what is asked for of that is written (own)
+abbrev pub IsSound : Format → Bool → List ℕ → Configuration → Option (List ℕ) → Option (List ℕ) → Type 0
+IsSound format explain bytes config old new =
+    WithImages config.sections (λ files. (check_refusal config files ≡ None) × PutsSound format explain bytes files old new)
+
+-- with these images it is the refusal of a check, and what is asked for of that is written (own)
+abbrev pub IsCheckRefusal : Format → Bool → List ℕ → Configuration → Option (List ℕ) → Option (List ℕ) → Fault → List NamedFile → Type 0
+IsCheckRefusal format explain bytes config old new fault files =
+    PutsRefusal format explain (line_of fault) bytes files old new × IsFaultOf (missing_image config files) (check_refusal config files) fault
+
+-- it is of the host; an image is not read, and nothing is written; or it is the refusal of a check (own)
+abbrev pub IsCheckFault : Format → Bool → List ℕ → Configuration → Option (List ℕ) → Option (List ℕ) → Fault → Type 0
+IsCheckFault format explain bytes config old new fault =
+    IsHostFault fault ⊎ ((IsImagesFault config.sections fault × (new ≡ old)) ⊎ WithImages config.sections (IsCheckRefusal format explain bytes config old new fault))
+
+-- the explanation is no text, or it is the fault of a check (own)
+abbrev pub IsFormFault : Format → Bool → List ℕ → Configuration → Option (List ℕ) → Option (List ℕ) → Fault → Type 0
+IsFormFault format explain bytes config old new fault = IsNoExplanation fault ⊎ IsCheckFault format explain bytes config old new fault
 
 -- ---- a run
 
@@ -121,15 +152,23 @@ pub record IsUnlikeRun (options : RunOptions) (config : Configuration) (old new 
   pub failed : IsFailed (run_question options expected) (world_at config files end) old new fault
   pub status : IsUnexpected fault
 
+-- with these images it is the first missing one, and nothing is written (own)
+abbrev pub IsMissingFault : Configuration → Option (List ℕ) → Option (List ℕ) → Fault → List NamedFile → Type 0
+IsMissingFault config old new fault files = IsFaultOf (missing_image config files) (missing_image config files) fault × IsSilent fault old new
+
 -- a run's fault with these files: of the host, the first missing image, or where none is missing that it was not as expected (own)
 abbrev pub IsRunFaultWith : RunOptions → Configuration → Option (List ℕ) → Option (List ℕ) → Fault → List NamedFile → Type 0
 IsRunFaultWith options config old new fault files =
-    IsHostFault fault ⊎ (IsFaultOf (missing_image config files) (missing_image config files) fault ⊎ IsUnlikeRun options config old new fault files)
+    IsHostFault fault ⊎ (IsMissingFault config old new fault files ⊎ IsUnlikeRun options config old new fault files)
 
--- the expected report or an image is not read, or it is the fault of a run with the images that were (own)
+-- the expected report or an image is not read (own)
+abbrev pub IsUnreadRun : RunOptions → Configuration → Fault → Type 0
+IsUnreadRun options config fault = IsNamedReadFault options.expect fault ⊎ IsImagesFault config.sections fault
+
+-- the expected report or an image is not read, and nothing is written, or it is the fault of a run with the images that were (own)
 abbrev pub IsRunFault : RunOptions → Configuration → Option (List ℕ) → Option (List ℕ) → Fault → Type 0
 IsRunFault options config old new fault =
-    IsNamedReadFault options.expect fault ⊎ (IsImagesFault config.sections fault ⊎ WithImages config.sections (IsRunFaultWith options config old new fault))
+    (IsUnreadRun options config fault × (new ≡ old)) ⊎ WithImages config.sections (IsRunFaultWith options config old new fault)
 
 -- ---- a trace
 
@@ -137,23 +176,32 @@ IsRunFault options config old new fault =
 abbrev pub partition_refusal : List ℕ → Configuration → List NamedFile → Option Fault
 partition_refusal name config files = refused_trace (part_named config name) config files name
 
--- the configuration has the partition and all its images (own)
-abbrev pub IsTraced : TraceOptions → Configuration → Type 0
-IsTraced options config = IsAccepted config.sections (partition_refusal options.partition.now config)
-
 -- the trace of the partition after the ticks that are asked for is written, where it is not asked for in words (own)
 abbrev pub PutsTrace : TraceOptions → Configuration → List NamedFile → Option (List ℕ) → Option (List ℕ) → Type 0
 PutsTrace options config files old new =
     options.decode ≡ false → Appends old new (trace_of (part_named config options.partition.now) (world_at config files options.run.ticks))
 
+-- of the partition's trace after the ticks that are asked for the steps that are asked for are written in words, with these symbols (own)
+abbrev pub PutsWorded : TraceOptions → List (ℕ × List ℕ) → Configuration → List NamedFile → Option (List ℕ) → Option (List ℕ) → Type 0
+PutsWorded options symbols config files old new =
+    (p : ℕ) → part_named config options.partition.now ≡ Some p → PutsWords (filter_for options) symbols config files options.run.ticks p old new
+
+-- so it is with the symbols of the file that is named (own)
+abbrev pub PutsDecoded : TraceOptions → Configuration → List NamedFile → Option (List ℕ) → Option (List ℕ) → Type 0
+PutsDecoded options config files old new =
+    (symbols : List (ℕ × List ℕ)) × AreSymbolsOf options.symbols symbols × PutsWorded options symbols config files old new
+
 -- with these images the configuration has the partition and all its images, and the trace is written (own)
 pub record IsTraceOf (options : TraceOptions) (config : Configuration) (old new : Option (List ℕ)) (files : List NamedFile) : Type 0 where
   pub known : partition_refusal options.partition.now config files ≡ None
   pub written : PutsTrace options config files old new
+  pub decoded : options.decode ≡ true → PutsDecoded options config files old new
 
--- the symbols are not read; or it is the refusal of a trace (own)
-abbrev pub IsTraceFault : TraceOptions → Configuration → Fault → Type 0
-IsTraceFault options config fault = IsSymbolsFileFault options.symbols fault ⊎ IsRefused config.sections (partition_refusal options.partition.now config) (partition_refusal options.partition.now config) fault
+-- the symbols are not read; or it is the refusal of a trace; and where it is not of the host nothing is written (own)
+abbrev pub IsTraceFault : TraceOptions → Configuration → Option (List ℕ) → Option (List ℕ) → Fault → Type 0
+IsTraceFault options config old new fault =
+    let refusal = partition_refusal options.partition.now config in
+    (IsSymbolsFileFault options.symbols fault ⊎ IsRefused config.sections refusal refusal fault) × IsSilent fault old new
 
 -- ---- a comparison
 
@@ -169,25 +217,38 @@ WithReleases old new P = (before : Release) × (after : Release) × IsReleaseOf 
 abbrev pub question_of : ImpactOptions → Question
 question_of options = record { partition = options.partition; rename = options.rename }
 
--- the counts are clear if and only if the partitions that are asked for are the same runs, and as JSON they are written with what stands between them (own)
-pub record IsComparison (options : ImpactOptions) (tally : Tally) (old new : Option (List ℕ)) (before after : Release) : Type 0 where
-  pub same : IsOkAnd (renames_of options.rename) (λ renames. IsClear tally ↔ AreSameRuns renames options.partition before after)
-  pub json : options.format ≡ form.Json → IsOkAnd (renames_of options.rename) (λ renames. PutsAnswer renames options.partition before after tally old new)
+-- what stands between two configurations is written in a form, with the counts (own)
+abbrev pub PutsComparison : Format → List Renamed → Option (Bor (List ℕ)) → Release → Release → Tally → Option (List ℕ) → Option (List ℕ) → Type 0
+PutsComparison form.Text renames asked before after tally old new = PutsLines renames asked before after tally old new
+PutsComparison form.Json renames asked before after tally old new = PutsAnswer renames asked before after tally old new
 
--- a failed write is said only where nothing is refused, and any other fault but out of memory is the refusal's (own)
-pub record IsCountFault (options : ImpactOptions) (fault : Fault) (before after : Release) : Type 0 where
+-- nothing is refused, the counts are clear if and only if the partitions that are asked for are the same runs, and what stands between them is written in the form that is asked for (own)
+pub record IsComparison (options : ImpactOptions) (tally : Tally) (old new : Option (List ℕ)) (before after : Release) : Type 0 where
+  pub accepted : refusal before after (question_of options) ≡ None
+  pub same : IsOkAnd (renames_of options.rename) (λ renames. IsClear tally ↔ AreSameRuns renames options.partition before after)
+  pub written : IsOkAnd (renames_of options.rename) (λ renames. PutsComparison options.format renames options.partition before after tally old new)
+
+-- a failed write is said only where nothing is refused, and any other fault but out of memory is the refusal's, of which nothing is written (own)
+pub record IsCountFault (options : ImpactOptions) (fault : Fault) (old new : Option (List ℕ)) (before after : Release) : Type 0 where
   pub write : fault ≡ WriteFailed → refusal before after (question_of options) ≡ None
   pub other : fault ≢ NoMemory → fault ≢ WriteFailed → refusal before after (question_of options) ≡ Some (told fault)
+  pub silent : fault ≢ NoMemory → fault ≢ WriteFailed → new ≡ old
 
--- an image of either is not read; or it is the fault of a comparison (own)
-abbrev pub IsImpactFault : ImpactOptions → Configuration → Configuration → Fault → Type 0
-IsImpactFault options old new fault = IsImagesFault old.sections fault ⊎ (IsImagesFault new.sections fault ⊎ WithReleases old new (IsCountFault options fault))
+-- an image of either is not read (own)
+abbrev pub AreUnread : Configuration → Configuration → Fault → Type 0
+AreUnread earlier later fault = IsImagesFault earlier.sections fault ⊎ IsImagesFault later.sections fault
 
--- the partitions that are asked for are the same runs (own)
-abbrev pub IsSameRun : ImpactOptions → Configuration → Configuration → Type 0
-IsSameRun options old new = WithReleases old new (λ before after. IsOkAnd (renames_of options.rename) (λ renames. AreSameRuns renames options.partition before after))
+-- an image of either is not read, and nothing is written; or it is the fault of a comparison (own)
+abbrev pub IsImpactFault : ImpactOptions → Option (List ℕ) → Option (List ℕ) → Configuration → Configuration → Fault → Type 0
+IsImpactFault options old new earlier later fault =
+    (AreUnread earlier later fault × (new ≡ old)) ⊎ WithReleases earlier later (IsCountFault options fault old new)
 
--- not all partitions that are asked for are the same runs (own)
-abbrev pub IsOtherRun : ImpactOptions → Configuration → Configuration → Type 0
-IsOtherRun options old new =
-    WithReleases old new (λ before after. IsOkAnd (renames_of options.rename) (λ renames. ¬ AreSameRuns renames options.partition before after))
+-- the partitions that are asked for are the same runs, which the counts say, and it is written (own)
+abbrev pub IsSameRun : ImpactOptions → Option (List ℕ) → Option (List ℕ) → Configuration → Configuration → Type 0
+IsSameRun options old new earlier later =
+    WithReleases earlier later (λ before after. (tally : Tally) × IsClear tally × IsComparison options tally old new before after)
+
+-- not all partitions that are asked for are the same runs, which the counts say, and it is written (own)
+abbrev pub IsOtherRun : ImpactOptions → Option (List ℕ) → Option (List ℕ) → Configuration → Configuration → Type 0
+IsOtherRun options old new earlier later =
+    WithReleases earlier later (λ before after. (tally : Tally) × (¬ IsClear tally) × IsComparison options tally old new before after)

@@ -1,10 +1,11 @@
 -- What holds of the request for a trace.
-use Rattle.std.specs.Prelude.{◌<◌, ◌≤◌, ℕ, Option, Some, None, IfSome}
+use Rattle.std.specs.Prelude.{◌<◌, ◌≤◌, ◌+◌, ◌-◌, ◌^◌, ℕ, Option, Some, None, IfSome, min, unwrap_or}
 use Rattle.ptk_words.specs.declared.TheConstants.{LAST_TICK}
 use Rattle.ptk_config.specs.Configuration.{Configuration}
 use Rattle.ptk_config.specs.Sections.{with_trace_at}
 use Rattle.ptk_main_answers.specs.Parts.{part_named}
-use Rattle.ptk_main_line.specs.declared.line.TheConstants.{MOST_STEPS, MOST_THREADS}
+use Rattle.ptk_main_answers.specs.declared.filter.Filter.{Filter}
+use Rattle.ptk_main_line.specs.declared.line.TheConstants.{MOST_STEPS, MOST_THREADS, MOST_TICKS}
 use Rattle.ptk_main_line.specs.declared.requests.TraceOptions.{TraceOptions}
 
 -- a thread's number, or none (own)
@@ -28,3 +29,12 @@ keeping (Some k) (Some p) config = record config { sections = with_trace_at k p 
 -- a configuration as a trace is made of it: the partition that is named keeps as many steps as are asked for (own)
 abbrev pub as_traced : TraceOptions → Configuration → Configuration
 as_traced options config = keeping options.last (part_named config options.partition.now) config
+
+-- the steps that are shown: those of the thread that is asked for, calls alone on request, from the first tick that is asked for to the last, that one with it (own)
+abbrev pub filter_for : TraceOptions → Filter
+filter_for options = record {
+  thread = options.thread;
+  is_calls_only = options.calls;
+  from = unwrap_or options.from 0;
+  to = min (unwrap_or options.to MOST_TICKS + 1) (2 ^ 64 - 1);
+}

@@ -5,10 +5,10 @@ ghost use Rattle.ptk_main_faults.specs.HostFaults.{IsHostFault};
 ghost use Rattle.ptk_main_faults.specs.Lines.{line_of};
 ghost use Rattle.ptk_main_faults.specs.declared.fault.Fault.TheVariants.{NoMemory};
 ghost use Rattle.ptk_main_answers.specs.Refusals.{IsFaultOf, missing_image};
-ghost use Rattle.ptk_main_files.specs.Outcomes.{IsCheckFault, IsExplanation, IsNoExplanation, IsSound, IsUnsaid, PutsCheck, PutsObject, check_refusal};
+ghost use Rattle.ptk_main_files.specs.Outcomes.{IsCheckFault, IsCheckRefusal, IsExplanation, IsFormFault, IsSound, IsUnsaid, PutsCheck, PutsExplained, PutsExplanation, PutsObject, PutsRefusal, check_refusal};
 ghost use Rattle.ptk_main_files.specs.Statuses.{IsCheckEnd, IsCheckStatus};
 
-use crate::explaining::put_explained;
+use crate::explaining::{put_explained, put_on_request};
 use ptk_config::Config;
 use ptk_main_answers::{Files, check_document, check_with};
 use ptk_main_faults::Fault;
@@ -17,80 +17,92 @@ use ptk_main_tools::{config_of, end, images_of, tell, text_in};
 use std::alloc::Global;
 use std::io::Write;
 
-/// Checks the configuration in a file, and gives the number of the status.
-pub fn check(rt: &HostRuntime, options: CheckOptions<'_>) -> u8
-    ensures { IsCheckEnd options.entry result }
+/// Checks the configuration in a file, writes what is asked for of it, and gives the number of the status.
+pub fn check<W: Write>(rt: &HostRuntime, options: CheckOptions<'_>, out: &mut W) -> u8
+    ensures { IsCheckEnd options.entry (W.contents out.old) (W.contents out.new) result }
 {
     match text_in(rt, options.file) {
-        Ok(text) => check_text(rt, text.as_str(), options),
+        Ok(text) => check_text(rt, text.as_str(), options, out),
         Err(fault) => tell(rt, &fault),
     }
 }
 
 // Checks a configuration's text.
-fn check_text(rt: &HostRuntime, text: &str, options: CheckOptions<'_>) -> u8
-    ensures { IsCheckStatus text.now result }
+fn check_text<W: Write>(rt: &HostRuntime, text: &str, options: CheckOptions<'_>, out: &mut W) -> u8
+    ensures { IsCheckStatus options.entry (W.contents out.old) (W.contents out.new) text.now result }
 {
     match config_of(rt, text) {
-        Ok(config) => end(rt, check_in_form(rt, text, &config, options)),
-        Err(fault) => tell(rt, &refusal_in_form(rt, text, fault, options)),
+        Ok(config) => end(rt, check_in_form(rt, text, &config, options, out)),
+        Err(fault) => tell(rt, &refusal_in_form(rt.alloc(), text, fault, options, out)),
     }
 }
 
-// What a check returns, in the form that is asked for.
-fn check_in_form<'a>(
+// Writes what a check says, in the form that is asked for.
+fn check_in_form<'a, W: Write>(
     rt: &HostRuntime,
     text: &str,
     config: &'a Config,
     options: CheckOptions<'_>,
+    out: &mut W,
 ) -> Result<(), Fault<'a>>
-    ensures sound { OnOk result (IsSound config.now) }
-    ensures failed { IfErr result (λ fault. IsNoExplanation fault ⊎ IsCheckFault config.now fault) }
+    ensures sound { OnOk result (IsSound options.entry.format options.entry.explain text.now config.now (W.contents out.old) (W.contents out.new)) }
+    ensures failed { IfErr result (IsFormFault options.entry.format options.entry.explain text.now config.now (W.contents out.old) (W.contents out.new)) }
 {
     match options.format {
-        Format::Text => check_config(rt, text, config, options),
-        Format::Json => check_json(rt, text, config, options.root),
+        Format::Text => check_config(rt, text, config, options, out),
+        Format::Json => check_json(rt, text, config, options, out),
     }
 }
 
-// The fault of a refused text, after what is asked for of it; that of the host where this can't be written.
-fn refusal_in_form(
-    rt: &HostRuntime,
+// The fault of a refused text, after what is asked for of it is written; that of the host where this can't be written.
+fn refusal_in_form<W: Write>(
+    alloc: Global,
     text: &str,
     fault: Fault<'static>,
     options: CheckOptions<'_>,
+    out: &mut W,
 ) -> Fault<'static>
-    ensures told { (result ≡ fault.entry) ⊎ IsUnsaid result }
+    ensures told { ((result ≡ fault.entry) × PutsRefusal options.entry.format options.entry.explain (line_of result) text.now [] (W.contents out.old) (W.contents out.new)) ⊎ IsUnsaid result }
     ensures memory { fault.entry ≡ NoMemory → result ≡ NoMemory }
 {
     match options.format {
-        Format::Text if !options.explain => fault,
-        Format::Text => refusal_explained(rt, text, fault),
-        Format::Json => refusal_json(rt, text, fault),
+        Format::Text => refusal_in_lines(alloc, text, fault, options.explain, out),
+        Format::Json => refusal_json(alloc, text, fault, out),
     }
 }
 
-/// Writes what a check says in lines to standard output, on request after what the configuration has with its images.
-/// The first fault, as an error: an image that is not there or can't be read, is no image, or does not fit; memory ran
-/// out, or standard output refused the bytes.
-pub fn check_config<'a>(
+// The fault of a refused text, on request after where and why it is refused is written.
+fn refusal_in_lines<W: Write>(
+    alloc: Global,
+    text: &str,
+    fault: Fault<'static>,
+    explain: bool,
+    out: &mut W,
+) -> Fault<'static>
+    ensures told { ((result ≡ fault.entry) × PutsExplained explain text.now [] (W.contents out.old) (W.contents out.new)) ⊎ IsHostFault result }
+    ensures memory { fault.entry ≡ NoMemory → result ≡ NoMemory }
+{
+    if !explain {
+        return fault;
+    }
+    refusal_explained(alloc, text, fault, out)
+}
+
+/// Writes what a check says in lines, on request after what the configuration has with its images. The first fault, as
+/// an error: an image that is not there or can't be read, is no image, or does not fit; memory ran out, or the writer
+/// failed.
+pub fn check_config<'a, W: Write>(
     rt: &HostRuntime,
     text: &str,
     config: &'a Config,
     options: CheckOptions<'_>,
+    out: &mut W,
 ) -> Result<(), Fault<'a>>
-    ensures sound { OnOk result (IsSound config.now) }
-    ensures failed { IfErr result (IsCheckFault config.now) }
+    ensures sound { OnOk result (IsSound Format.Text options.entry.explain text.now config.now (W.contents out.old) (W.contents out.new)) }
+    ensures failed { IfErr result (IsCheckFault Format.Text options.entry.explain text.now config.now (W.contents out.old) (W.contents out.new)) }
 {
     let files = images_of(rt, config, options.root)?;
-    put_check(
-        rt.alloc(),
-        text,
-        config,
-        &files,
-        options.explain,
-        &mut rt.stdout(),
-    )
+    put_check(rt.alloc(), text, config, &files, options.explain, out)
 }
 
 // Writes what a check says in lines, on request after what the configuration has with its images.
@@ -104,27 +116,25 @@ fn put_check<'a, W: Write>(
 ) -> Result<(), Fault<'a>>
     ensures written { OnOk result (PutsCheck explain text.now files.now (W.contents out.old) (W.contents out.new)) }
     ensures sound { OnOk result (check_refusal config.now files.now ≡ None) }
-    ensures failed { IfErr result (λ fault. IsHostFault fault ⊎ IsFaultOf (missing_image config.now files.now) (check_refusal config.now files.now) fault) }
+    ensures failed { IfErr result (λ fault. IsHostFault fault ⊎ IsCheckRefusal Format.Text explain text.now config.now (W.contents out.old) (W.contents out.new) fault files.now) }
 {
-    if !explain {
-        return check_with(alloc, config, files, out);
-    }
-    put_explained(alloc, text, files, out)?;
+    put_on_request(alloc, text, files, explain, out)?;
     check_with(alloc, config, files, out)
 }
 
-// What a check returns in a JSON object.
-fn check_json<'a>(
+// Writes what a check says as a JSON object; the explanation is in it, asked for or not.
+fn check_json<'a, W: Write>(
     rt: &HostRuntime,
     text: &str,
     config: &'a Config,
-    root: Option<&str>,
+    options: CheckOptions<'_>,
+    out: &mut W,
 ) -> Result<(), Fault<'a>>
-    ensures sound { OnOk result (IsSound config.now) }
-    ensures failed { IfErr result (λ fault. IsNoExplanation fault ⊎ IsCheckFault config.now fault) }
+    ensures sound { OnOk result (IsSound Format.Json options.entry.explain text.now config.now (W.contents out.old) (W.contents out.new)) }
+    ensures failed { IfErr result (IsFormFault Format.Json options.entry.explain text.now config.now (W.contents out.old) (W.contents out.new)) }
 {
-    let files = images_of(rt, config, root)?;
-    put_object(rt.alloc(), text, config, &files, &mut rt.stdout())
+    let files = images_of(rt, config, options.root)?;
+    put_object(rt.alloc(), text, config, &files, out)
 }
 
 // Writes what a check returns as a JSON object. The first fault, as an error, behind its object.
@@ -152,32 +162,42 @@ fn put_object<'a, W: Write>(
     }
 }
 
-/// The fault of a refused text, after where and why it is refused, which goes to standard output; that of the host
-/// where these words can't be written. Out of memory says nothing of the text, and comes alone.
-pub fn refusal_explained(rt: &HostRuntime, text: &str, fault: Fault<'static>) -> Fault<'static>
-    ensures told { (result ≡ fault.entry) ⊎ IsHostFault result }
+/// The fault of a refused text, after where and why it is refused is written; that of the host where these words can't
+/// be written. Out of memory says nothing of the text, and comes alone.
+pub fn refusal_explained<W: Write>(
+    alloc: Global,
+    text: &str,
+    fault: Fault<'static>,
+    out: &mut W,
+) -> Fault<'static>
+    ensures told { ((result ≡ fault.entry) × PutsExplanation text.now [] (W.contents out.old) (W.contents out.new)) ⊎ IsHostFault result }
     ensures memory { fault.entry ≡ NoMemory → result ≡ NoMemory }
 {
     if let Fault::NoMemory = fault {
         return fault;
     }
-    let files = Files::new(rt.alloc());
-    match put_explained(rt.alloc(), text, &files, &mut rt.stdout()) {
+    let files = Files::new(alloc);
+    match put_explained(alloc, text, &files, out) {
         Ok(()) => fault,
         Err(failure) => failure,
     }
 }
 
-// The fault of a refused text, after the JSON object of the refusal, which goes to standard output; that of the host
-// where it can't be written. Out of memory says nothing of the text, and comes alone.
-fn refusal_json(rt: &HostRuntime, text: &str, fault: Fault<'static>) -> Fault<'static>
-    ensures told { (result ≡ fault.entry) ⊎ IsUnsaid result }
+// The fault of a refused text, after the JSON object of the refusal is written; that of the host where it can't be
+// written. Out of memory says nothing of the text, and comes alone.
+fn refusal_json<W: Write>(
+    alloc: Global,
+    text: &str,
+    fault: Fault<'static>,
+    out: &mut W,
+) -> Fault<'static>
+    ensures told { ((result ≡ fault.entry) × PutsObject (Some (line_of result)) text.now [] (W.contents out.old) (W.contents out.new)) ⊎ IsUnsaid result }
     ensures memory { fault.entry ≡ NoMemory → result ≡ NoMemory }
 {
     if let Fault::NoMemory = fault {
         return fault;
     }
-    match put_refusal(rt.alloc(), text, &fault, &mut rt.stdout()) {
+    match put_refusal(alloc, text, &fault, out) {
         Ok(()) => fault,
         Err(failure) => failure,
     }

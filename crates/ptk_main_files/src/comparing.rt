@@ -13,31 +13,42 @@ use ptk_main_tools::{config_in, images_of, tell};
 use std::alloc::Global;
 use std::io::Write;
 
-/// What stands between the configurations in two files, on standard output, and the number of the status.
-pub fn impact(rt: &HostRuntime, options: ImpactOptions<'_>) -> u8
-    ensures { IsImpactEnd options.entry result }
+/// Writes what stands between the configurations in two files, and gives the number of the status.
+pub fn impact<W: Write>(rt: &HostRuntime, options: ImpactOptions<'_>, out: &mut W) -> u8
+    ensures { IsImpactEnd options.entry (W.contents out.old) (W.contents out.new) result }
 {
     match config_in(rt, options.old) {
-        Ok(config) => impact_from(rt, &config, options),
+        Ok(config) => impact_from(rt, &config, options, out),
         Err(fault) => tell(rt, &fault),
     }
 }
 
 // What stands between a configuration and the one in a file.
-fn impact_from(rt: &HostRuntime, old: &Config, options: ImpactOptions<'_>) -> u8
-    ensures { IsConfigStatus options.entry.new (IsImpactStatus options.entry old.now) result }
+fn impact_from<W: Write>(
+    rt: &HostRuntime,
+    old: &Config,
+    options: ImpactOptions<'_>,
+    out: &mut W,
+) -> u8
+    ensures { IsConfigStatus options.entry.new (IsImpactStatus options.entry (W.contents out.old) (W.contents out.new) old.now) result }
 {
     match config_in(rt, options.new) {
-        Ok(config) => impact_between(rt, old, &config, options),
+        Ok(config) => impact_between(rt, old, &config, options, out),
         Err(fault) => tell(rt, &fault),
     }
 }
 
 // What stands between two configurations.
-fn impact_between(rt: &HostRuntime, old: &Config, new: &Config, options: ImpactOptions<'_>) -> u8
-    ensures { IsImpactStatus options.entry old.now new.now result }
+fn impact_between<W: Write>(
+    rt: &HostRuntime,
+    old: &Config,
+    new: &Config,
+    options: ImpactOptions<'_>,
+    out: &mut W,
+) -> u8
+    ensures { IsImpactStatus options.entry (W.contents out.old) (W.contents out.new) old.now new.now result }
 {
-    match put_impact(rt, old, new, options, &mut rt.stdout()) {
+    match put_impact(rt, old, new, options, out) {
         Ok(tally) => status_of_tally(&tally).number(),
         Err(fault) => tell(rt, &fault),
     }
@@ -52,7 +63,7 @@ fn put_impact<'a, W: Write>(
     out: &mut W,
 ) -> Result<Tally, Fault<'a>>
     ensures counted { IfOk result (λ tally. WithReleases old.now new.now (IsComparison options.entry tally (W.contents out.old) (W.contents out.new))) }
-    ensures failed { IfErr result (IsImpactFault options.entry old.now new.now) }
+    ensures failed { IfErr result (IsImpactFault options.entry (W.contents out.old) (W.contents out.new) old.now new.now) }
 {
     let old_files = images_of(rt, old, options.root)?;
     let new_files = images_of(rt, new, options.root)?;
@@ -76,7 +87,7 @@ fn compare<'a, W: Write>(
     out: &mut W,
 ) -> Result<Tally, Fault<'a>>
     ensures counted { IfOk result (λ tally. IsComparison options.entry tally (W.contents out.old) (W.contents out.new) before.entry after.entry) }
-    ensures failed { IfErr result (λ fault. IsCountFault options.entry fault before.entry after.entry) }
+    ensures failed { IfErr result (λ fault. IsCountFault options.entry fault (W.contents out.old) (W.contents out.new) before.entry after.entry) }
 {
     let question = Question {
         partition: options.partition,

@@ -4,7 +4,7 @@ ghost use Rattle.std.specs.Prelude.{◌≡◌, ◌≢◌, IfErr, OnOk};
 ghost use Rattle.ptk_main_faults.specs.HostFaults.{IsHostFault};
 ghost use Rattle.ptk_main_faults.specs.Lines.{status_of};
 ghost use Rattle.ptk_main_faults.specs.Statuses.{status_number};
-ghost use Rattle.ptk_main_files.specs.Outcomes.{PutsExplanation};
+ghost use Rattle.ptk_main_files.specs.Outcomes.{PutsExplained, PutsExplanation};
 
 use ptk_main_answers::{Files, explain_with};
 use ptk_main_faults::Fault;
@@ -23,6 +23,23 @@ pub(crate) fn refused(rt: &HostRuntime, text: &str, explain: bool, fault: &Fault
         let _said = put_explained(rt.alloc(), text, &files, &mut rt.stderr());
     }
     status
+}
+
+/// Writes on request the explanation of a text with these files.
+pub(crate) fn put_on_request<W: Write>(
+    alloc: Global,
+    text: &str,
+    files: &Files,
+    explain: bool,
+    out: &mut W,
+) -> Result<(), Fault<'static>>
+    ensures written { OnOk result (PutsExplained explain text.now files.now (W.contents out.old) (W.contents out.new)) }
+    ensures failed { IfErr result IsHostFault }
+{
+    if !explain {
+        return Ok(());
+    }
+    put_explained(alloc, text, files, out)
 }
 
 /// Writes the explanation of a text with these files: where and why it is refused, or what its configuration has with

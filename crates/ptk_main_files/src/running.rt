@@ -15,24 +15,25 @@ use ptk_main_tools::{bytes_in, config_of, end, images_of, tell, text_in};
 use ptk_words::Tick;
 use std::io::Write;
 
-/// The report of a run, and whether it is as expected.
-pub fn run(rt: &HostRuntime, options: RunOptions<'_>) -> u8
+/// Writes the report of a run of the configuration in a file, and gives the number of the status, which says whether
+/// the run is as expected.
+pub fn run<W: Write>(rt: &HostRuntime, options: RunOptions<'_>, out: &mut W) -> u8
     requires { options.run.ticks ≤ LAST_TICK }
-    ensures { IsRunEnd options.entry result }
+    ensures { IsRunEnd options.entry (W.contents out.old) (W.contents out.new) result }
 {
     match text_in(rt, options.run.file) {
-        Ok(text) => run_text(rt, text.as_str(), options),
+        Ok(text) => run_text(rt, text.as_str(), options, out),
         Err(fault) => tell(rt, &fault),
     }
 }
 
 // The report of a run of the configuration that a text states.
-fn run_text(rt: &HostRuntime, text: &str, options: RunOptions<'_>) -> u8
+fn run_text<W: Write>(rt: &HostRuntime, text: &str, options: RunOptions<'_>, out: &mut W) -> u8
     requires { options.run.ticks ≤ LAST_TICK }
-    ensures { IsStatedStatus (IsRunStatus options.entry) text.now result }
+    ensures { IsStatedStatus (λ _. W.contents out.new ≡ W.contents out.old) (IsRunStatus options.entry (W.contents out.old) (W.contents out.new)) text.now result }
 {
     match config_of(rt, text) {
-        Ok(config) => end(rt, run_config(rt, &config, options, &mut rt.stdout())),
+        Ok(config) => end(rt, run_config(rt, &config, options, out)),
         Err(fault) => refused(rt, text, options.explain, &fault),
     }
 }

@@ -1,15 +1,15 @@
 //! `trace`: the last steps of a partition, as they are or in words.
 
-ghost use Rattle.std.specs.Prelude.{◌≡◌, ◌⊎◌, ◌+◌, ◌-◌, ◌^◌, min, true, false, None, unwrap_or, IfErr, OnOk};
+ghost use Rattle.std.specs.Prelude.{◌≡◌, ◌⊎◌, true, false, None, IfErr, OnOk};
+ghost use Rattle.ptk_main_faults.specs.HostFaults.{IsHostFault};
 ghost use Rattle.ptk_main_answers.specs.Parts.{part_named};
 ghost use Rattle.ptk_main_answers.specs.Refusals.{IsFaultOf};
 ghost use Rattle.ptk_main_line.specs.Requests.{wants_words};
-ghost use Rattle.ptk_main_line.specs.declared.line.TheConstants.{MOST_TICKS};
 ghost use Rattle.ptk_main_tools.specs.Reading.{IsSymbolsFileFault};
 ghost use Rattle.ptk_main_tools.specs.Usage.{IsUsageStatus};
-ghost use Rattle.ptk_main_files.specs.Outcomes.{IsTraceFault, IsTraceOf, PutsTrace, WithImages, partition_refusal};
+ghost use Rattle.ptk_main_files.specs.Outcomes.{IsTraceFault, IsTraceOf, PutsDecoded, PutsTrace, WithImages, partition_refusal};
 ghost use Rattle.ptk_main_files.specs.Statuses.{IsStatedStatus, IsTraceEnd, IsTraceStatus};
-ghost use Rattle.ptk_main_files.specs.Traces.{AreSteps, IsThread, IsTraceInRange, keeping};
+ghost use Rattle.ptk_main_files.specs.Traces.{AreSteps, IsThread, IsTraceInRange, filter_for, keeping};
 
 use crate::explaining::refused;
 use ptk_config::Config;
@@ -22,17 +22,18 @@ use ptk_main_tools::{
 use ptk_words::{ThreadNo, Tick};
 use std::io::Write;
 
-/// The last steps of a partition. A usage error where an option of a trace in words is there without `--decode`.
-pub fn trace(rt: &HostRuntime, options: TraceOptions<'_>) -> u8
+/// Writes the last steps of a partition of the configuration in a file, and gives the number of the status. A usage
+/// error where an option of a trace in words is there without `--decode`.
+pub fn trace<W: Write>(rt: &HostRuntime, options: TraceOptions<'_>, out: &mut W) -> u8
     requires { IsTraceInRange options }
     ensures undecoded { wants_words options.entry ≡ true → options.entry.decode ≡ false → IsUsageStatus result }
-    ensures decoded { (wants_words options.entry ≡ true → options.entry.decode ≡ true) → IsTraceEnd options.entry result }
+    ensures decoded { (wants_words options.entry ≡ true → options.entry.decode ≡ true) → IsTraceEnd options.entry (W.contents out.old) (W.contents out.new) result }
 {
     if options.wants_words() && !options.decode {
         return refuse_undecoded(rt);
     }
     match text_in(rt, options.run.file) {
-        Ok(text) => trace_text(rt, text.as_str(), options),
+        Ok(text) => trace_text(rt, text.as_str(), options, out),
         Err(fault) => tell(rt, &fault),
     }
 }
@@ -48,14 +49,14 @@ fn refuse_undecoded(rt: &HostRuntime) -> u8
 }
 
 // The last steps of a partition of the configuration that a text states.
-fn trace_text(rt: &HostRuntime, text: &str, options: TraceOptions<'_>) -> u8
+fn trace_text<W: Write>(rt: &HostRuntime, text: &str, options: TraceOptions<'_>, out: &mut W) -> u8
     requires { IsTraceInRange options }
-    ensures { IsStatedStatus (IsTraceStatus options.entry) text.now result }
+    ensures { IsStatedStatus (λ _. W.contents out.new ≡ W.contents out.old) (IsTraceStatus options.entry (W.contents out.old) (W.contents out.new)) text.now result }
 {
     match config_of(rt, text) {
         Ok(mut config) => {
             keep_last(&mut config, options);
-            end(rt, trace_config(rt, &config, options, &mut rt.stdout()))
+            end(rt, trace_config(rt, &config, options, out))
         }
         Err(fault) => refused(rt, text, options.explain, &fault),
     }
@@ -82,7 +83,7 @@ fn trace_config<'a, W: Write>(
 ) -> Result<(), Fault<'a>>
     requires { IsTraceInRange options }
     ensures traced { OnOk result (WithImages config.now.sections (IsTraceOf options.entry config.now (W.contents out.old) (W.contents out.new))) }
-    ensures failed { IfErr result (IsTraceFault options.entry config.now) }
+    ensures failed { IfErr result (IsTraceFault options.entry config.now (W.contents out.old) (W.contents out.new)) }
 {
     let files = images_of(rt, config, options.run.root)?;
     put_steps(rt, config, &files, options, out)
@@ -98,9 +99,11 @@ fn put_steps<'a, W: Write>(
 ) -> Result<(), Fault<'a>>
     requires { IsTraceInRange options }
     ensures written { OnOk result (PutsTrace options.entry config.now files.now (W.contents out.old) (W.contents out.new)) }
+    ensures decoded { OnOk result (options.entry.decode ≡ true → PutsDecoded options.entry config.now files.now (W.contents out.old) (W.contents out.new)) }
     ensures accepted { OnOk result (partition_refusal options.entry.partition.now config.now files.now ≡ None) }
     ensures failed { IfErr result (λ fault. IsSymbolsFileFault options.entry.symbols fault
         ⊎ IsFaultOf (partition_refusal options.entry.partition.now config.now files.now) (partition_refusal options.entry.partition.now config.now files.now) fault) }
+    ensures silent { IfErr result (λ fault. ¬ IsHostFault fault → out.new ≡ out.old) }
 {
     if options.decode {
         return put_words(rt, config, files, options, out);
@@ -118,9 +121,11 @@ fn put_words<'a, W: Write>(
     out: &mut W,
 ) -> Result<(), Fault<'a>>
     requires { IsTraceInRange options }
+    ensures decoded { OnOk result (PutsDecoded options.entry config.now files.now (W.contents out.old) (W.contents out.new)) }
     ensures accepted { OnOk result (partition_refusal options.entry.partition.now config.now files.now ≡ None) }
     ensures failed { IfErr result (λ fault. IsSymbolsFileFault options.entry.symbols fault
         ⊎ IsFaultOf (partition_refusal options.entry.partition.now config.now files.now) (partition_refusal options.entry.partition.now config.now files.now) fault) }
+    ensures silent { IfErr result (λ fault. ¬ IsHostFault fault → out.new ≡ out.old) }
 {
     let text = symbols_text_in(rt, options.symbols)?;
     let symbols = symbols_of(rt, options.symbols, text.as_str())?;
@@ -138,13 +143,11 @@ fn put_words<'a, W: Write>(
     )
 }
 
-// The steps that are shown: those from the first tick asked for to the last, that one with it.
+// The steps that are shown: those of the thread that is asked for, calls alone on request, from the first tick that is
+// asked for to the last, that one with it.
 fn filter_of(options: TraceOptions<'_>) -> Filter
     requires { IsThread options.thread }
-    ensures thread { result.thread ≡ options.entry.thread }
-    ensures calls { result.is_calls_only ≡ options.entry.calls }
-    ensures from { result.from ≡ unwrap_or options.entry.from 0 }
-    ensures to { result.to ≡ min (unwrap_or options.entry.to MOST_TICKS + 1) (2 ^ 64 - 1) }
+    ensures { result ≡ filter_for options.entry }
 {
     let last = options.to.unwrap_or(MOST_TICKS);
     Filter {

@@ -1,14 +1,18 @@
 use Rattle.std.proofs.Common.{inl, inr}
-use Rattle.std.proofs.lemmas.Result.{IfErr-weaker, on_ok_weaker}
+use Rattle.std.proofs.lemmas.Result.{IfErr-weaker}
+use Rattle.ptk_main_line.specs.declared.requests.Format.TheVariants as form
+use Rattle.ptk_main_files.proofs.Outcomes.{sound_by}
 use Rattle.ptk_main_files.proofs.checking.check_json.Goals as goal
 
 pub returns-clause-sound : goal.returns-clause-sound
-returns-clause-sound c = on_ok_weaker c.put_object.result (λ is. (c.in_ok-files.files, c.in_ok-files.ensures.named, is)) c.put_object.ensures.sound
+returns-clause-sound g c =
+    sound_by form.Json c.args.options.explain c.args.text.now c.args.config.now c.put_object.result c.in_ok-files.files (g.W.Write.contents c.args.out.now) (g.W.Write.contents c.put_object.new.out)
+    c.in_ok-files.ensures.named c.put_object.ensures.sound c.put_object.ensures.written
 
 pub returns-clause-failed : goal.returns-clause-failed
-returns-clause-failed c =
+returns-clause-failed g c =
     IfErr-weaker c.put_object.result _ _
     (λ fault failed. elim failed [
       | inl unsaid ↦ elim unsaid [ inl none ↦ inl none | inr host ↦ inr (inl host) ]
-      | inr refused ↦ inr (inr (inr (c.in_ok-files.files, c.in_ok-files.ensures.named, refused.1)))
+      | inr refused ↦ inr (inr (inr (c.in_ok-files.files, c.in_ok-files.ensures.named, refused)))
     ]) c.put_object.ensures.failed

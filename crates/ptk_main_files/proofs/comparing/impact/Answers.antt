@@ -2,7 +2,7 @@ use Rattle.std.proofs.Common.{inl, inr}
 use Rattle.ptk_main_files.proofs.comparing.impact.Goals as goal
 
 pub returns-in-Ok : goal.returns-in-Ok
-returns-in-Ok c = inr (c.in-Ok.config, c.impact_from.ensures)
+returns-in-Ok g c = inr (c.in-Ok.config, c.in-Ok.ensures.stated, c.impact_from.ensures)
 
 pub returns-in-Err : goal.returns-in-Err
-returns-in-Err c = inl (c.in-Err.fault, c.in-Err.ensures, c.tell.ensures)
+returns-in-Err g c = inl (c.in-Err.fault, c.in-Err.ensures.unread, c.tell.ensures)

@@ -1,4 +1,5 @@
-use Rattle.std.proofs.Common.{◌∙◌, sym, subst}
+use Rattle.std.proofs.Common.{◌∙◌, ap, sym, subst}
+use Rattle.std.proofs.lemmas.Result.{IfErr-weaker}
 use Rattle.std.specs.Prelude.{◌≤◌}
 use Rattle.ptk_words.specs.declared.TheConstants.{LAST_TICK}
 use Rattle.ptk_main_answers.specs.declared.run.RunQuestion.{RunQuestion}
@@ -19,3 +20,4 @@ returns-clause-failed g c =
     failed_by c.args.options c.args.config.now c.run_answer-outcome.result c.in_ok-files.files c.run_question-question.result c.as_deref.result (g.W.Write.contents c.args.out.now) (g.W.Write.contents c.run_answer-outcome.new.out)
     c.in_ok-files.ensures.named c.run_question-question.ensures
     (c.as_deref.ensures.variant ∙ c.in_ok-expected.ensures.named) c.run_answer-outcome.ensures.refused c.run_answer-outcome.ensures.failed
+    (IfErr-weaker c.run_answer-outcome.result _ _ (λ fault silent missing. ap g.W.Write.contents (silent missing)) c.run_answer-outcome.ensures.silent)

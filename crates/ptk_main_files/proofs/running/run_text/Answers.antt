@@ -1,14 +1,19 @@
-use Rattle.std.proofs.Common.{inl, inr}
-use Rattle.ptk_main_files.proofs.Outcomes.{run_ended}
+use Rattle.std.proofs.Common.{inl, inr, refl}
+use Rattle.ptk_main_files.specs.Outcomes.{IsRunFault, IsRunOf, WithImages}
+use Rattle.ptk_main_files.proofs.Outcomes.{ended}
 use Rattle.ptk_main_files.proofs.running.run_text.Goals as goal
 
 pub returns-in-Ok : goal.returns-in-Ok
-returns-in-Ok c =
+returns-in-Ok g c =
+    let old = g.W.Write.contents c.args.out.now in
+    let new = g.W.Write.contents c.run_config.new.out in
+    let config = c.in-Ok.config in
     inr (
-      c.in-Ok.config,
+      config,
       c.in-Ok.ensures.stated,
-      run_ended c.args.options c.in-Ok.config c.run_config.result c.end.result _ _ c.run_config.ensures.passed c.run_config.ensures.failed c.end.ensures.done c.end.ensures.failed,
+      ended (WithImages config.sections (IsRunOf c.args.options config old new)) (IsRunFault c.args.options config old new) c.run_config.result c.end.result c.run_config.ensures.passed
+          c.run_config.ensures.failed c.end.ensures.done c.end.ensures.failed,
     )
 
 pub returns-in-Err : goal.returns-in-Err
-returns-in-Err c = inl (c.in-Err.fault, c.in-Err.ensures.refused, c.refused.ensures)
+returns-in-Err g c = inl (c.in-Err.fault, (c.in-Err.ensures.refused, refl), c.refused.ensures)

@@ -1,15 +1,15 @@
-use Rattle.std.proofs.Common.{inl, inr}
+use Rattle.std.proofs.Common.{inl, inr, refl}
 use Rattle.ptk_main_files.proofs.Outcomes.{trace_ended}
 use Rattle.ptk_main_files.proofs.tracing.trace_text.Goals as goal
 
 pub returns-in-Ok : goal.returns-in-Ok
-returns-in-Ok c =
+returns-in-Ok g c =
     inr (
       c.in-Ok.config,
       c.in-Ok.ensures.stated,
-      trace_ended c.args.options c.in-Ok.config c.keep_last.new.config c.trace_config.result c.end.result _ _ c.keep_last.ensures c.trace_config.ensures.traced c.trace_config.ensures.failed c.end.ensures.done
-          c.end.ensures.failed,
+      trace_ended c.args.options c.in-Ok.config c.keep_last.new.config c.trace_config.result c.end.result (g.W.Write.contents c.args.out.now) (g.W.Write.contents c.trace_config.new.out)
+          c.keep_last.ensures c.trace_config.ensures.traced c.trace_config.ensures.failed c.end.ensures.done c.end.ensures.failed,
     )
 
 pub returns-in-Err : goal.returns-in-Err
-returns-in-Err c = inl (c.in-Err.fault, c.in-Err.ensures.refused, c.refused.ensures)
+returns-in-Err g c = inl (c.in-Err.fault, (c.in-Err.ensures.refused, refl), c.refused.ensures)
