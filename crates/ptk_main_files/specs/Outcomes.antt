@@ -91,6 +91,13 @@ IsExplanation bytes files words = PutsExplanation bytes files (Some []) (Some wo
 abbrev pub PutsObject : Option (List ℕ) → List ℕ → List NamedFile → Option (List ℕ) → Option (List ℕ) → Type 0
 PutsObject line bytes files old new = (words : List ℕ) × IsExplanation bytes files words × Appends old new (check_text line words ++ newline)
 
+-- the line of a fault is written, and behind it on request why the text is refused; out of memory says nothing of the text (own)
+pub record PutsRefused (explain : Bool) (fault : Fault) (bytes : List ℕ) (old new : Option (List ℕ)) : Type 0 where
+  pub between : Option (List ℕ)
+  pub line : Appends old between (line_of fault ++ newline)
+  pub alone : fault ≡ NoMemory → new ≡ between
+  pub explained : fault ≢ NoMemory → PutsExplained explain bytes [] between new
+
 -- what is asked for of what is sound is written: the line of a check, or its JSON object (own)
 abbrev pub PutsSound : Format → Bool → List ℕ → List NamedFile → Option (List ℕ) → Option (List ℕ) → Type 0
 PutsSound form.Text explain bytes files old new = PutsCheck explain bytes files old new

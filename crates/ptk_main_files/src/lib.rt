@@ -24,7 +24,8 @@
 //! - Where a text that was read is refused, or what is read or asked for behind it, the writer is as it was, unless
 //!   memory ran out or the writer failed; but a run that was not as expected writes its report, and a check of what is
 //!   refused on request the explanation, or its JSON object (`refusal_in_form`, `check_in_form`).
-//! - The progress of a run is written as it is defined (`put_progress`).
+//! - On standard error the line of a refused text is written, and on request the explanation behind it (`put_refused`),
+//!   and the progress of a run as it is defined (`put_progress`).
 //! - `trace` is a usage error where an option of a trace in words is there without `--decode`.
 //! - Which files it reads is tested; that what goes to standard error goes there is neither proved nor tested.
 //!
