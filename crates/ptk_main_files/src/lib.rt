@@ -25,7 +25,7 @@
 //!   memory ran out or the writer failed; but a run that was not as expected writes its report, and a check of what is
 //!   refused on request the explanation, or its JSON object (`refusal_in_form`, `check_in_form`).
 //! - On standard error the line of a refused text is written, and on request the explanation behind it (`put_refused`),
-//!   and the progress of a run as it is defined (`put_progress`).
+//!   and the progress of a run that is not to be quiet (`put_progress`).
 //! - `trace` is a usage error where an option of a trace in words is there without `--decode`.
 //! - Which files it reads is tested; that what goes to standard error goes there is neither proved nor tested.
 //!

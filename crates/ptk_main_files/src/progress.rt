@@ -5,6 +5,7 @@ ghost use Rattle.std.specs.Io.KnownBytes.{Appends};
 ghost use Rattle.ptk_main_files.specs.ProgressLine.{progress_text, quotient};
 
 use ptk_main_answers::Watch;
+use ptk_main_line::RunOptions;
 use ptk_words::Tick;
 use std::io;
 use std::io::{IsTerminal, Write};
@@ -21,11 +22,11 @@ pub(crate) struct Progress<'r> {
 }
 
 impl<'r> Progress<'r> {
-    /// Begins to watch; a quiet one shows nothing.
-    pub(crate) fn begin(rt: &'r HostRuntime, quiet: bool) -> Progress<'r>
-        ensures { IsTrue quiet → result.start ≡ None }
+    /// Begins to watch a run; of one that is to be quiet nothing is shown.
+    pub(crate) fn begin(rt: &'r HostRuntime, options: RunOptions<'_>) -> Progress<'r>
+        ensures { IsTrue options.entry.quiet → result.start ≡ None }
     {
-        let start = if !quiet && rt.stderr().is_terminal() {
+        let start = if !options.quiet && rt.stderr().is_terminal() {
             Instant::now(rt).ok()
         } else {
             None
@@ -50,6 +51,7 @@ impl Watch for Progress<'_> {
     fn reached(&mut self, tick: Tick, last: Tick)
         ensures kept { self.new ≡ record self.old { next = self.new.next } }
         ensures later { self.old.next ≤ self.new.next }
+        ensures still { self.old.start ≡ None → self.new ≡ self.old }
     {
         let Some(start) = self.start else {
             return;

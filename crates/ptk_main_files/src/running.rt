@@ -52,7 +52,7 @@ fn run_config<'a, W: Write>(
     let expected = expected_bytes(rt, options.expect)?;
     let files = images_of(rt, config, options.run.root)?;
     let question = run_question(options, expected.as_deref());
-    let mut progress = Progress::begin(rt, options.quiet);
+    let mut progress = Progress::begin(rt, options);
     let outcome = run_answer(rt.alloc(), config, &files, &question, &mut progress, out);
     progress.finish();
     outcome
