@@ -2,15 +2,19 @@
 use Rattle.std.proofs.Common.{◌≡◌, ℕ, List, [], ◌++◌, length, max, sym, ap, subst, ◌∙◌, arith}
 use Rattle.ptk_words.specs.Names.{Byte}
 use Rattle.ptk_explanation_facts.specs.World.{World, at_tick, state_of}
+use Rattle.ptk_explanation_facts.proofs.Sinces.{looks_to}
 use Rattle.ptk_explanation.specs.declared.answer.Form.{Form}
 use Rattle.ptk_explanation_facts.specs.declared.history.History.{History}
 use Rattle.ptk_explanation.specs.Explanations.{AreOfRun, IsExplanation, IsSaid}
 
 -- of a run that goes on to a tick, where it begins at none
 run_told : (world : World) (to p : ℕ) (histories : List History) → AreOfRun world to p histories → AreOfRun world (max world.tick to) p histories
-run_told world to p histories told = λ begun some.
-    let same : max world.tick to ≡ to = omega (arith, begun) in
-    subst (λ (k : ℕ). AreOfRun world k p histories) (sym same) told begun some
+run_told world to p histories told = record {
+  since = λ begun some.
+      let same : max world.tick to ≡ to = omega (arith, begun) in
+      (subst (λ (k : ℕ). AreOfRun world k p histories) (sym same) told).since begun some;
+  seen = (told.seen.0, looks_to world.tick to (max world.tick to) told.seen.0 (omega arith) told.seen.1, told.seen.2);
+}
 
 pub explanation_told : (form : Form) (symbols : List (ℕ × List ℕ)) (now world : World) (to p : ℕ) (items shown : List History) (empty written : List Byte) → now ≡ at_tick (max world.tick to) world → shown ≡ items
     → length items ≡ length (state_of world p).part.locks.threads → AreOfRun world to p items → empty ≡ [] → (text : List Byte) × IsSaid form symbols now p shown text × (written ≡ empty ++ text)

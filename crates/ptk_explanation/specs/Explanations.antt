@@ -2,7 +2,7 @@
 use Rattle.std.specs.Prelude.{◌≡◌, ℕ, ◌<◌, List, length}
 use Rattle.ptk_words.specs.Names.{Byte}
 use Rattle.ptk_explanation_facts.below.ptk_system.specs.contracts.activity.ActivityPartialEq.TheImpl as activity_eq
-use Rattle.ptk_explanation_facts.specs.Histories.{AreSince}
+use Rattle.ptk_explanation_facts.specs.Histories.{AreSeenTo, AreSince}
 use Rattle.ptk_explanation_facts.specs.World.{World, at_tick, state_of}
 use Rattle.ptk_explanation.specs.declared.answer.Form.{Form}
 use Rattle.ptk_explanation.specs.declared.answer.Form.TheVariants as form
@@ -15,9 +15,10 @@ abbrev pub IsSaid : Form → List (ℕ × List ℕ) → World → ℕ → List H
 IsSaid form.Lines symbols world p histories text = AreLines symbols world p histories text
 IsSaid form.Json symbols world p histories text = IsDocument symbols world p histories text
 
--- over the first ticks of a run, this many and one at least, each history says since when the thread of its number does what it does (own)
-abbrev pub AreOfRun : World → ℕ → ℕ → List History → Type 0
-AreOfRun world ticks p histories = world.tick ≡ 0 → 0 < ticks → AreSince (activity_eq.ghosts).eq world p ticks histories
+-- over the first ticks of a run, this many, each history is what is seen of the thread of its number, and where there is a tick says since when it does what it does (own)
+pub record AreOfRun (world : World) (ticks p : ℕ) (histories : List History) : Type 0 where
+  pub since : world.tick ≡ 0 → 0 < ticks → AreSince (activity_eq.ghosts).eq world p ticks histories
+  pub seen : AreSeenTo (activity_eq.ghosts).eq world p ticks histories
 
 -- what is said of a partition of a system after this many ticks, with a history of the run for each number of a thread (own)
 abbrev pub IsExplanation : Form → List (ℕ × List ℕ) → World → ℕ → ℕ → List Byte → Type 0

@@ -1,5 +1,5 @@
 -- Since when a thread does what it does: what its history says goes on from look to look.
-use Rattle.std.proofs.Common.{◌≡◌, ℕ, ◌+◌, ◌<◌, ◌≤◌, ◌⊎◌, Bool, true, false, List, ◌++◌, drop, take, length, max, refl, sym, ◌∙◌, ap, subst, arith, inl, inr}
+use Rattle.std.proofs.Common.{◌≡◌, ℕ, ◌+◌, ◌<◌, ◌≤◌, ◌⊎◌, Bool, true, false, List, [], ◌∷◌, ◌++◌, drop, take, length, max, refl, sym, ◌∙◌, ap, subst, arith, inl, inr}
 use Rattle.std.specs.Prelude.{if◌then◌else◌, slice_index_or}
 use Rattle.std.specs.Cmp.{IsEquivalence}
 use Rattle.std.proofs.lemmas.Bool.{cases_order}
@@ -11,7 +11,7 @@ use Rattle.ptk_main_runs.specs.Activity.{Activity}
 use Rattle.ptk_main_runs.specs.Activities.{activity_in}
 use Rattle.ptk_main_runs.specs.World.{World, at_tick, but_next, state_of}
 use Rattle.ptk_explanation_facts.specs.declared.history.History.{History}
-use Rattle.ptk_explanation_facts.specs.Histories.{AreLooked, AreNew, AreSince, IsSince, is_at, looked, no_history}
+use Rattle.ptk_explanation_facts.specs.Histories.{AreLooked, AreLooks, AreNew, AreOver, AreSince, IsSince, history_over, is_at, looked, no_history}
 
 -- what holds at a tick, or nothing has been seen yet
 abbrev pub IsSeen : (Activity → Activity → Bool) → World → ℕ → ℕ → ℕ → History → Type 0
@@ -90,7 +90,7 @@ module _ (is_same : Activity → Activity → Bool) (law : IsEquivalence is_same
 -- ---- all histories
 
 pub none_seen : (is_same : Activity → Activity → Bool) (world : World) (p tick : ℕ) (histories : List History) → tick ≡ 0 → AreNew histories → AreSeen is_same world p tick histories
-none_seen is_same world p tick histories begins new = λ place default within few. inl (begins, new place default within)
+none_seen is_same world p tick histories begins new = λ place default within few. inl (begins, ap (λ (h : History). h.since) (new place default within))
 
 pub all_seen : (is_same : Activity → Activity → Bool) (world : World) (p tick : ℕ) (histories : List History) → AreSince is_same world p tick histories → AreSeen is_same world p tick histories
 all_seen is_same world p tick histories are = λ place default within few. inr (are place default within few)
@@ -133,18 +133,36 @@ stays_over world p tick m next after first is goes rests t k from to = elim (cas
   ]
 ]
 
+-- ---- what is seen
+
+-- the looks of a run are those of one that ends elsewhere, if it goes no further than that or than where it begins
+pub looks_to : (from now to : ℕ) (looks : List ℕ) → now ≤ max from to → AreLooks from now looks → AreLooks from to looks
+looks_to from now to [] within are = tt
+looks_to from now to (tick ∷ earlier) within are = (are.0, omega (arith, are.0, are.1, within), are.2)
+
+pub over_none : (is_same : Activity → Activity → Bool) (world : World) (p : ℕ) (histories : List History) → AreNew histories → AreOver is_same world p [] histories
+over_none is_same world p histories new = λ place default within few. new place default within
+
+-- one more look
+pub over_more : (is_same : Activity → Activity → Bool) (world : World) (p tick : ℕ) (s : Part) (looks : List ℕ) (before after : List History) → s ≡ (state_of (at_tick (tick + 1) world) p).part
+    → length after ≡ length before → AreLooked is_same s tick before after → AreOver is_same world p looks before → AreOver is_same world p (tick ∷ looks) after
+over_more is_same world p tick s looks before after at kept looks_at are = λ place default within few.
+    let there : place < length before = omega (arith, within, kept) in
+    looks_at place default there few
+    ∙ (ap (looked is_same s (place + 1) tick) (are place default there few)
+    ∙ ap (λ (x : Part). looked is_same x (place + 1) tick (history_over is_same world p (place + 1) looks)) at)
+
 -- ---- at the ends
 
 pub filled_new : (n : ℕ) (item : History) (histories : List History) → histories ≡ filled item n → item ≡ no_history → AreNew histories
 filled_new n item histories is blank = λ place default within.
     let inside : place < n = omega (arith, within, ap length is, length-replicate n item) in
-    ap (λ (hs : List History). (slice_index_or hs place default).since) is
-    ∙ (ap (λ (h : History). h.since) (get_or-replicate n place item default inside) ∙ ap (λ (h : History). h.since) blank)
+    ap (λ (hs : List History). slice_index_or hs place default) is ∙ (get_or-replicate n place item default inside ∙ blank)
 
-pub written_since : (is_same : Activity → Activity → Bool) (world : World) (p to : ℕ) (new items : List History) (n : ℕ) → n ≡ length new → AreSince is_same world p to new
-    → AreSince is_same world p to (take n (new ++ drop (length new) items))
-written_since is_same world p to new items n all are =
+-- what holds of a slice that was written holds of its vector
+pub written_whole : (P : List History → Type 0) (new items : List History) (n : ℕ) → n ≡ length new → P new → P (take n (new ++ drop (length new) items))
+written_whole P new items n all of =
     let written : take n (new ++ drop (length new) items) ≡ new =
     ap (λ (k : ℕ). take k (new ++ drop (length new) items)) all
     ∙ (take-append-le (length new) new (drop (length new) items) (omega arith) ∙ take_all (length new) new (omega arith)) in
-    subst (AreSince is_same world p to) (sym written) are
+    subst P (sym written) of

@@ -1,5 +1,5 @@
 -- Since when a thread does what it does, as it is seen at a partition's decisions.
-use Rattle.std.specs.Prelude.{◌≡◌, ℕ, ◌+◌, ◌<◌, ◌≤◌, Bool, true, false, List, length, min, if◌then◌else◌, Option, Some, None, slice_index_or}
+use Rattle.std.specs.Prelude.{◌≡◌, ℕ, ◌+◌, ◌<◌, ◌≤◌, Bool, true, false, List, [], ◌∷◌, length, min, if◌then◌else◌, Option, Some, None, slice_index_or}
 use Rattle.ptk_words.specs.Names.{Pointer, ThreadNumber, Tick, Word}
 use Rattle.ptk_words.specs.declared.TheConstants.{SP, THREAD_LIMIT}
 use Rattle.ptk_words_model.specs.State.{Part}
@@ -44,6 +44,27 @@ AreLooked is_same s tick before after =
     (place : ℕ) (default : History) → place < length before → place < THREAD_LIMIT →
     slice_index_or after place default ≡ looked is_same s (place + 1) tick (slice_index_or before place default)
 
+-- ---- over a run
+
+-- the ticks of looks, the last one first, each in a run from one tick to another (own)
+abbrev pub AreLooks : Tick → Tick → List Tick → Type 0
+AreLooks from to [] = Unit {0}
+AreLooks from to (tick ∷ earlier) = (from ≤ tick) × (tick < to) × AreLooks from tick earlier
+
+-- what is seen of the thread of a number after the decisions at these ticks of a run, the last one first: its least stack pointer is the least at those since its number was free (own)
+abbrev pub history_over : (Activity → Activity → Bool) → World → ℕ → ThreadNumber → List Tick → History
+history_over is_same world p t [] = no_history
+history_over is_same world p t (tick ∷ earlier) = looked is_same (state_of (at_tick (tick + 1) world) p).part t tick (history_over is_same world p t earlier)
+
+-- each history is what is seen of the thread of its number after the decisions at these ticks, for the first THREAD_LIMIT histories, since a partition has no more threads (own)
+abbrev pub AreOver : (Activity → Activity → Bool) → World → ℕ → List Tick → List History → Type 0
+AreOver is_same world p looks histories =
+    (place : ℕ) (default : History) → place < length histories → place < THREAD_LIMIT → slice_index_or histories place default ≡ history_over is_same world p (place + 1) looks
+
+-- the histories are what is seen at some ticks of the run to a tick: at none where it makes none (own)
+abbrev pub AreSeenTo : (Activity → Activity → Bool) → World → ℕ → Tick → List History → Type 0
+AreSeenTo is_same world p to histories = (looks : List Tick) × AreLooks world.tick to looks × AreOver is_same world p looks histories
+
 -- ---- since when
 
 -- at a tick of a run the thread of a number does this (own)
@@ -63,4 +84,4 @@ AreSince is_same world p tick histories =
 
 -- no history has begun (own)
 abbrev pub AreNew : List History → Type 0
-AreNew histories = (place : ℕ) (default : History) → place < length histories → (slice_index_or histories place default).since ≡ 0
+AreNew histories = (place : ℕ) (default : History) → place < length histories → slice_index_or histories place default ≡ no_history

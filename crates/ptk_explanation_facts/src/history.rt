@@ -3,7 +3,7 @@
 ghost use Rattle.std.specs.Prelude.{◌≡◌, ◌<◌, ◌≤◌, IfOk, MatchResult, if◌then◌else◌, length, max};
 ghost use Rattle.ptk_words.specs.declared.TheConstants.{LAST_TICK};
 ghost use Rattle.ptk_main_runs.specs.World.{at_tick, state_of};
-ghost use Rattle.ptk_explanation_facts.specs.Histories.{AreLooked, AreNew, AreSince, least_before, lesser, looked, no_history};
+ghost use Rattle.ptk_explanation_facts.specs.Histories.{AreLooked, AreNew, AreSeenTo, AreSince, least_before, lesser, looked, no_history};
 
 use crate::facts::thread_count;
 use ptk_main_runs::{Activity, System};
@@ -80,7 +80,7 @@ fn lesser(a: Option<u32>, b: Option<u32>) -> Option<u32>
 }
 
 /// The histories of a partition's threads, one for each number from 1, over the run to a tick. The run is that of
-/// `run_to`. An error where memory ran out: the system is then as it was.
+/// `run_to`: where it makes no tick nothing is seen. An error where memory ran out: the system is then as it was.
 pub fn histories(
     alloc: Global,
     system: &mut System<'_>,
@@ -92,6 +92,7 @@ pub fn histories(
     ensures config { system.new.config ≡ system.old.config }
     ensures run { MatchResult result (λ _. system.new ≡ at_tick (max system.old.tick to) system.old) (λ _. system.new ≡ system.old) }
     ensures since { IfOk result (λ histories. system.old.tick ≡ 0 → 0 < to → AreSince ⟦<Activity as PartialEq>⟧.eq system.old p to histories.items) }
+    ensures seen { IfOk result (λ histories. AreSeenTo ⟦<Activity as PartialEq>⟧.eq system.old p to histories.items) }
     ensures count { IfOk result (λ histories. length histories.items ≡ length (state_of system.old p).part.locks.threads) }
 {
     let mut histories = repeated(alloc, History::new(), thread_count(system, p))?;
@@ -107,6 +108,7 @@ fn watch(system: &mut System<'_>, p: PartId, to: Tick, histories: &mut [History]
     ensures config { system.new.config ≡ system.old.config }
     ensures run { system.new ≡ at_tick (max system.old.tick to) system.old }
     ensures since { system.old.tick ≡ 0 → 0 < to → AreNew histories.old → AreSince ⟦<Activity as PartialEq>⟧.eq system.old p to histories.new }
+    ensures seen { AreNew histories.old → AreSeenTo ⟦<Activity as PartialEq>⟧.eq system.old p to histories.new }
 {
     system.states_are_alone();
     let end = to.ticks();

@@ -11,7 +11,7 @@
 //!   is named once, from its least number on (`begins_cycle`).
 //! - A history of a thread is what was seen of it at the partition's decisions, each time by `looked`, over the run of
 //!   `run_to` (`histories`): what the thread does in the end it has done since the decision that its history names
-//!   (`since`).
+//!   (`since`), and its least stack pointer is the least that was seen (`seen`: `history_over`).
 //!
 //! Below are the system (`ptk_system`, by `ptk_main_runs`), the types of instructions (`ptk_rv32i_code`) and the
 //! statement of a word (`ptk_disasm`); above are the words and the JSON (`ptk_explanation`).

@@ -1,4 +1,4 @@
-use Rattle.std.proofs.Common.{◌≡◌, ℕ, ◌+◌, ◌∙◌, ap, subst, sym, max, length, ◌<◌, ◌≤◌, refl, arith}
+use Rattle.std.proofs.Common.{◌≡◌, ℕ, ◌+◌, [], ◌∷◌, ◌∙◌, ap, subst, sym, max, length, ◌<◌, ◌≤◌, refl, arith}
 use Rattle.ptk_words.specs.declared.TheConstants.{LAST_TICK}
 use Rattle.ptk_config.specs.Configuration.{Configuration}
 use Rattle.ptk_main_runs.specs.Activities.{activity_in}
@@ -7,7 +7,7 @@ use Rattle.ptk_main_runs.below.ptk_system.specs.contracts.activity.ActivityParti
 use Rattle.ptk_main_runs.specs.World.{World, at_tick, but_next, state_of}
 use Rattle.ptk_main_runs.proofs.Keeping.{at_again}
 use Rattle.ptk_explanation_facts.specs.Histories.{AreSince}
-use Rattle.ptk_explanation_facts.proofs.Sinces.{all_looked, all_seen, all_since, all_stayed, none_seen, stays_over}
+use Rattle.ptk_explanation_facts.proofs.Sinces.{all_looked, all_seen, all_since, all_stayed, looks_to, none_seen, over_more, over_none, stays_over}
 use Rattle.ptk_explanation_facts.proofs.history.watch.Goals as goal
 
 pub loop-tick-init : goal.loop-tick-init
@@ -19,6 +19,7 @@ loop-tick-init c = record {
   to = omega arith;
   behind = omega arith;
   end = omega arith;
+  over = λ new. ([], tt, over_none (activity_eq.ghosts).eq c.args.system.now c.args.p c.args.histories.now new);
   seen = λ begun new. none_seen (activity_eq.ghosts).eq c.args.system.now c.args.p c.ticks-tick.result c.args.histories.now (omega (arith, begun, c.ticks-tick.ensures, c.tick.ensures)) new;
 }
 
@@ -59,6 +60,13 @@ loop-tick-preserved c =
       to = omega (arith, so.to, reached, c.new.ensures, c.ticks-end.ensures, c.compute_to.ensures.within);
       behind = omega (arith, after, c.ticks-next.ensures, reach);
       end = omega (arith, after, c.ticks-next.ensures, c.stays_until.ensures.within, c.ticks-end.ensures);
+      over = λ new.
+          let until = so.over new in (
+            c.loop-tick.tick ∷ until.0,
+            (omega (arith, so.from, so.behind), omega (arith, after), until.1),
+            over_more (activity_eq.ghosts).eq first c.args.p c.loop-tick.tick (state_of c.run_to.new.self c.args.p).part until.0 c.loop-tick.histories c.look_at_all.new.histories
+                (ap (λ (w : World). (state_of w c.args.p).part) looked_at) (omega arith) c.look_at_all.ensures until.2,
+          );
       seen = λ begun new.
           all_seen (activity_eq.ghosts).eq first c.args.p c.max-after.result c.look_at_all.new.histories
           (all_stayed (activity_eq.ghosts).eq laws-law first c.args.p (c.loop-tick.tick + 1) c.max-after.result c.look_at_all.new.histories (omega (arith, after))
@@ -79,3 +87,8 @@ returns-clause-since c = λ begun some new.
     let last : c.loop-tick.tick ≡ c.args.to = omega (arith, begun, so.end, c.ticks-end.ensures) in
     subst (λ (k : ℕ). AreSince (activity_eq.ghosts).eq c.args.system.now c.args.p k c.loop-tick.histories) last
     (all_since (activity_eq.ghosts).eq c.args.system.now c.args.p c.loop-tick.tick c.loop-tick.histories (omega (arith, some, last)) (so.seen begun new))
+
+pub returns-clause-seen : goal.returns-clause-seen
+returns-clause-seen c = λ new.
+    let until = c.loop-tick.invariant.over new in
+    (until.0, looks_to c.args.system.now.tick c.loop-tick.tick c.args.to until.0 c.loop-tick.invariant.end until.1, until.2)

@@ -1,7 +1,7 @@
 use Rattle.std.proofs.Common.{◌≡◌, ◌-◌, ◌<◌, ◌≤◌, length, max}
 use Rattle.ptk_main_runs.below.ptk_system.specs.contracts.activity.ActivityPartialEq.TheImpl as activity_eq
 use Rattle.ptk_main_runs.specs.World.{at_tick}
-use Rattle.ptk_explanation_facts.specs.Histories.{AreNew}
+use Rattle.ptk_explanation_facts.specs.Histories.{AreNew, AreSeenTo}
 use Rattle.ptk_explanation_facts.proofs.Sinces.{AreSeen}
 use Rattle.ptk_explanation_facts.proofs.history.watch.Given as goal
 
@@ -14,6 +14,7 @@ invariant-loop-tick l = record {
   to : l.system.tick ≤ max l.initial.system.tick l.to;
   behind : l.system.tick ≤ l.tick;
   end : l.tick ≤ max l.initial.system.tick l.to;
+  over : AreNew l.initial.histories → AreSeenTo (activity_eq.ghosts).eq l.initial.system l.p l.tick l.histories;
   seen : l.initial.system.tick ≡ 0 → AreNew l.initial.histories → AreSeen (activity_eq.ghosts).eq l.initial.system l.p l.tick l.histories;
 }
 
