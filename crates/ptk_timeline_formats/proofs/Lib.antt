@@ -5,6 +5,7 @@ pub mod Values
 pub mod Traces
 pub mod Holding
 pub mod Reached
+pub mod Outputs
 pub mod Stretches
 pub mod Turns
 pub mod Wholes

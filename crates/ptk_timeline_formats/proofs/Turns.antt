@@ -1,4 +1,4 @@
--- What a dump has from one turn of the windows to the next.
+-- What is written from one turn of the windows to the next.
 use Rattle.std.proofs.Common.{◌≡◌, ◌∙◌, ◌<◌, ◌≤◌, ◌+◌, ℕ, Bool, true, false, List, [], ◌++◌, Option, Some, None, ◌⊎◌, inl, inr, length, get_or, min, max, refl, sym, ap, ap₂, subst, arith, get_or-set_other, get_or-set_same}
 use Rattle.std.specs.Prelude.{MatchBool, MatchOption, nat_lt}
 use Rattle.std.proofs.Math.ListN.{set}
@@ -11,7 +11,8 @@ use Rattle.ptk_config.specs.Configuration.{Configuration}
 use Rattle.ptk_timeline_changes.specs.World.{World}
 use Rattle.ptk_timeline_formats.specs.declared.board.Board.{Board}
 use Rattle.ptk_timeline_formats.specs.declared.view.PartView.{PartView}
-use Rattle.ptk_timeline_formats.specs.Holders.{closing_lines, earlier, opened, opening_lines, tick_behind_closing, tick_behind_opening}
+use Rattle.ptk_timeline_formats.specs.Holders.{earlier, opened, tick_behind_closing, tick_behind_opening}
+use Rattle.ptk_timeline_formats.specs.Outputs.{Output, closing_text, opening_text}
 use Rattle.ptk_timeline_formats.specs.Runs.{AreTurns, IsGoneOver, IsNextStart, IsTurn, IsViewed, IsWindow, Stand, has_view, stand_opened}
 
 -- ---- the next window
@@ -96,17 +97,17 @@ pick_false true P Q is q = let no : ⊥ = cc in absurd no
 pick_false false P Q is q = q
 
 -- a partition without a view: nothing is gone over
-pub none_over : (p from end : ℕ) (stand : Stand) (lines : List ℕ) → has_view p stand.board.views.items stand.world ≡ false → lines ≡ [] → IsGoneOver p from end stand stand lines
-none_over p from end stand lines has none =
-    pick_false (has_view p stand.board.views.items stand.world) (IsViewed p from end stand stand lines) ((stand ≡ stand) × (lines ≡ [])) has (refl, none)
+pub none_over : (output : Output) (p from end : ℕ) (stand : Stand) (lines : List ℕ) → has_view p stand.board.views.items stand.world ≡ false → lines ≡ [] → IsGoneOver output p from end stand stand lines
+none_over output p from end stand lines has none =
+    pick_false (has_view p stand.board.views.items stand.world) (IsViewed output p from end stand stand lines) ((stand ≡ stand) × (lines ≡ [])) has (refl, none)
 
 -- a partition's view went over the window
-pub gone_over : (p from end : ℕ) (before after : Stand) (view behind : PartView) (lines : List ℕ) → has_view p before.board.views.items before.world ≡ true
+pub gone_over : (output : Output) (p from end : ℕ) (before after : Stand) (view behind : PartView) (lines : List ℕ) → has_view p before.board.views.items before.world ≡ true
     → view ≡ get_or before.board.views.items p view → after.board.views.items ≡ set before.board.views.items p behind → after.board.holder ≡ before.board.holder
-    → IsWindow p from end before.world after.world before.at after.at view behind lines → IsGoneOver p from end before after lines
-gone_over p from end before after view behind lines has is written holder window =
+    → IsWindow output p from end before.world after.world before.at after.at view behind lines → IsGoneOver output p from end before after lines
+gone_over output p from end before after view behind lines has is written holder window =
     let within : p < length before.board.views.items = (view_within p before.board.views.items before.world has).0 in
-    pick_true (has_view p before.board.views.items before.world) (IsViewed p from end before after lines) ((after ≡ before) × (lines ≡ [])) has (record {
+    pick_true (has_view p before.board.views.items before.world) (IsViewed output p from end before after lines) ((after ≡ before) × (lines ≡ [])) has (record {
       view = view;
       behind = behind;
       was = λ default. sym (get_or_read before.board.views.items p view within is default);
@@ -142,16 +143,16 @@ nobody_of plan seen tick t found is_plan is_tick is free =
     (subst (λ (r : Option (ℕ × ℕ)). MatchOption r ((q : ℕ) → ¬ IsOwn seen q t) (λ (window : ℕ × ℕ). IsOwnUntil seen window.0 t window.1)) is free)
 
 -- in a window
-pub own_turn : (config : Configuration) (tick to p end next : ℕ) (before after : Stand) (begun : Board) (at : ℕ) (old middle new : Option (List ℕ))
+pub own_turn : (output seen : Output) (config : Configuration) (tick to p end next : ℕ) (before after : Stand) (begun : Board) (at : ℕ) (old middle new : Option (List ℕ))
     → begun ≡ record (before.board) { holder = Some (opened p tick before.board.holder) } → at ≡ tick_behind_opening before.at tick p before.board.holder
-    → next ≡ min end to → IsOwnUntil config.plan p tick end → Appends old middle (opening_lines before.at tick p before.board.holder)
-    → (lines : List ℕ) × Appends middle new lines × IsGoneOver p tick next (record { world = before.world; at = at; board = begun }) after lines
-    → (lines : List ℕ) × Appends old new lines × IsTurn config tick to next before after lines
-own_turn config tick to p end next before after begun at old middle new is_begun is_at up_to own written over =
+    → next ≡ min end to → IsOwnUntil config.plan p tick end → Appends old middle (opening_text output before.at tick p before.board.holder) → seen ≡ output
+    → (lines : List ℕ) × Appends middle new lines × IsGoneOver seen p tick next (record { world = before.world; at = at; board = begun }) after lines
+    → (lines : List ℕ) × Appends old new lines × IsTurn output config tick to next before after lines
+own_turn output seen config tick to p end next before after begun at old middle new is_begun is_at up_to own written same over =
     let there : record { world = before.world; at = at; board = begun } ≡ stand_opened p tick before =
     ap₂ (λ (k : ℕ) (b : Board). record { world = before.world; at = k; board = b }) is_at is_begun in (
-      opening_lines before.at tick p before.board.holder ++ over.0,
-      Appends-trans old middle new (opening_lines before.at tick p before.board.holder) over.0 written over.1,
+      opening_text output before.at tick p before.board.holder ++ over.0,
+      Appends-trans old middle new (opening_text output before.at tick p before.board.holder) over.0 written over.1,
       inl (record {
         p = p;
         end = end;
@@ -159,17 +160,18 @@ own_turn config tick to p end next before after begun at old middle new is_begun
         own = own;
         up_to = up_to;
         text = refl;
-        window = subst (λ (s : Stand). IsGoneOver p tick next s after over.0) there over.2;
+        window = subst (λ (s : Stand). IsGoneOver output p tick next s after over.0) there
+            (subst (λ (o : Output). IsGoneOver o p tick next (record { world = before.world; at = at; board = begun }) after over.0) same over.2);
       }),
     )
 
 -- in none
-pub free_turn : (config : Configuration) (tick to next : ℕ) (before after : Stand) (old new : Option (List ℕ)) → ((p : ℕ) → ¬ IsOwn config.plan p tick)
+pub free_turn : (output : Output) (config : Configuration) (tick to next : ℕ) (before after : Stand) (old new : Option (List ℕ)) → ((p : ℕ) → ¬ IsOwn config.plan p tick)
     → IsNextStart config.plan (length config.sections) tick to next → after.world ≡ before.world → after.board ≡ record (before.board) { holder = None }
-    → after.at ≡ tick_behind_closing before.at tick before.board.holder → Appends old new (closing_lines before.at tick before.board.holder)
-    → (lines : List ℕ) × Appends old new lines × IsTurn config tick to next before after lines
-free_turn config tick to next before after old new nobody up_to same is_board is_at written = (
-  closing_lines before.at tick before.board.holder,
+    → after.at ≡ tick_behind_closing before.at tick before.board.holder → Appends old new (closing_text output before.at tick before.board.holder)
+    → (lines : List ℕ) × Appends old new lines × IsTurn output config tick to next before after lines
+free_turn output config tick to next before after old new nobody up_to same is_board is_at written = (
+  closing_text output before.at tick before.board.holder,
   written,
   inr (record {
     nobody = nobody;
@@ -180,9 +182,9 @@ free_turn config tick to next before after old new nobody up_to same is_board is
 )
 
 -- by the same ticks
-pub turns_by : (config : Configuration) (to last from start tick reached : ℕ) (first now : Stand) (lines : List ℕ) → to ≡ last → from ≡ start → tick ≡ reached
-    → AreTurns config to from first tick now lines → AreTurns config last start first reached now lines
-turns_by config to last from start tick reached first now lines is_last is_start is_reached turns =
-    subst (λ (k : ℕ). AreTurns config last start first k now lines) is_reached
-    (subst (λ (k : ℕ). AreTurns config last k first tick now lines) is_start
-    (subst (λ (k : ℕ). AreTurns config k from first tick now lines) is_last turns))
+pub turns_by : (output : Output) (config : Configuration) (to last from start tick reached : ℕ) (first now : Stand) (lines : List ℕ) → to ≡ last → from ≡ start → tick ≡ reached
+    → AreTurns output config to from first tick now lines → AreTurns output config last start first reached now lines
+turns_by output config to last from start tick reached first now lines is_last is_start is_reached turns =
+    subst (λ (k : ℕ). AreTurns output config last start first k now lines) is_reached
+    (subst (λ (k : ℕ). AreTurns output config last k first tick now lines) is_start
+    (subst (λ (k : ℕ). AreTurns output config k from first tick now lines) is_last turns))

@@ -4,5 +4,6 @@ pub mod Views
 pub mod Holders
 pub mod Texts
 pub mod Traces
+pub mod Outputs
 pub mod Runs
 pub use Rattle.ptk_timeline_changes.specs.Missing

@@ -8,8 +8,8 @@ ghost use Rattle.ptk_timeline_changes.specs.Dumps.{each_text};
 ghost use Rattle.ptk_timeline_formats.specs.declared.sheet.Form.TheVariants.{Vcd, Events};
 ghost use Rattle.ptk_timeline_formats.specs.declared.view.PartView.{PartView};
 ghost use Rattle.ptk_timeline_formats.specs.Holders.{closing_events, closing_lines, earlier, is_open, opened, opening_events, opening_lines, tick_behind_closing, tick_behind_opening};
+ghost use Rattle.ptk_timeline_formats.specs.Outputs.{first_look, output_of, rest_events};
 ghost use Rattle.ptk_timeline_formats.specs.Runs.{AreFirstViews, AreTurns, IsGoneOver, IsNextStart, IsTurn, has_view};
-ghost use Rattle.ptk_timeline_formats.specs.Texts.{first_text};
 
 use crate::sheet::Sheet;
 use crate::view::PartView;
@@ -58,12 +58,13 @@ impl Board {
         out: &mut W,
     ) -> Result<(), PutFault>
         requires within { sheet.old.at ≤ sheet.old.to }
-        ensures within { sheet.new.at ≤ sheet.old.at }
+        ensures at { sheet.new.at ≡ sheet.old.at }
         ensures to { sheet.new.to ≡ sheet.old.to }
         ensures form { sheet.new.form ≡ sheet.old.form }
-        ensures reached { sheet.old.form ≡ Vcd → OnOk result (sheet.new.at ≡ sheet.old.at) }
-        ensures dump { sheet.old.form ≡ Vcd → OnOk result (Appends (W.contents out.old) (W.contents out.new)
-            (each_text first_text 0 (take (length system.now.config.sections) self.now.views.items))) }
+        ensures symbols { sheet.new.symbols.now ≡ sheet.old.symbols.now }
+        ensures text { OnOk result (Appends (W.contents out.old) (W.contents out.new)
+            (each_text (first_look (output_of sheet.old.form sheet.old.symbols.now) system.now sheet.old.at) 0
+            (take (length system.now.config.sections) self.now.views.items))) }
     {
         for i in 0..self.views.len().min(system.parts()) {
             self.views[i].put_all(system, PartId::new(i as u8), sheet, out)?;
@@ -80,6 +81,8 @@ impl Board {
         requires within { sheet.old.at ≤ sheet.old.to }
         ensures within { sheet.new.at ≤ sheet.old.to }
         ensures to { sheet.new.to ≡ sheet.old.to }
+        ensures events { sheet.old.form ≡ Events → OnOk result (Appends (W.contents out.old) (W.contents out.new)
+            (rest_events sheet.old.symbols.now sheet.old.to self.old)) }
     {
         let to = sheet.to();
         self.close_window(to, sheet, out)?;
@@ -101,8 +104,9 @@ impl Board {
         ensures within { sheet.new.at ≤ sheet.old.to }
         ensures to { sheet.new.to ≡ sheet.old.to }
         ensures form { sheet.new.form ≡ sheet.old.form }
-        ensures dump { sheet.old.form ≡ Vcd → OnOk result ((lines : List ℕ) × Appends (W.contents out.old) (W.contents out.new) lines
-            × AreTurns config.now sheet.old.to sheet.old.at (record { world = system.old; at = sheet.old.at; board = self.old })
+        ensures symbols { sheet.new.symbols.now ≡ sheet.old.symbols.now }
+        ensures text { OnOk result ((lines : List ℕ) × Appends (W.contents out.old) (W.contents out.new) lines
+            × AreTurns (output_of sheet.old.form sheet.old.symbols.now) config.now sheet.old.to sheet.old.at (record { world = system.old; at = sheet.old.at; board = self.old })
             sheet.old.to (record { world = system.new; at = sheet.new.at; board = self.new }) lines) }
     {
         let to = sheet.to();
@@ -128,8 +132,9 @@ impl Board {
         ensures within { sheet.new.at ≤ sheet.old.to }
         ensures to { sheet.new.to ≡ sheet.old.to }
         ensures form { sheet.new.form ≡ sheet.old.form }
-        ensures dump { sheet.old.form ≡ Vcd → IfOk result (λ next. (lines : List ℕ) × Appends (W.contents out.old) (W.contents out.new) lines
-            × IsTurn config.now tick sheet.old.to next (record { world = system.old; at = sheet.old.at; board = self.old })
+        ensures symbols { sheet.new.symbols.now ≡ sheet.old.symbols.now }
+        ensures text { IfOk result (λ next. (lines : List ℕ) × Appends (W.contents out.old) (W.contents out.new) lines
+            × IsTurn (output_of sheet.old.form sheet.old.symbols.now) config.now tick sheet.old.to next (record { world = system.old; at = sheet.old.at; board = self.old })
             (record { world = system.new; at = sheet.new.at; board = self.new }) lines) }
     {
         let to = sheet.to();
@@ -169,8 +174,9 @@ impl Board {
         ensures others { (place : ℕ) (default : PartView) → place ≢ p →
             slice_index_or self.new.views.items place default ≡ slice_index_or self.old.views.items place default }
         ensures config { system.new.config ≡ system.old.config }
-        ensures dump { sheet.old.form ≡ Vcd → OnOk result ((lines : List ℕ) × Appends (W.contents out.old) (W.contents out.new) lines
-            × IsGoneOver p from end (record { world = system.old; at = sheet.old.at; board = self.old })
+        ensures symbols { sheet.new.symbols.now ≡ sheet.old.symbols.now }
+        ensures text { OnOk result ((lines : List ℕ) × Appends (W.contents out.old) (W.contents out.new) lines
+            × IsGoneOver (output_of sheet.old.form sheet.old.symbols.now) p from end (record { world = system.old; at = sheet.old.at; board = self.old })
             (record { world = system.new; at = sheet.new.at; board = self.new }) lines) }
     {
         if !self.has_view(p, system) {
@@ -210,7 +216,8 @@ impl Board {
         ensures within { sheet.new.at ≤ tick }
         ensures to { sheet.new.to ≡ sheet.old.to }
         ensures form { sheet.new.form ≡ sheet.old.form }
-        ensures reached { sheet.old.form ≡ Vcd → OnOk result (sheet.new.at ≡ tick_behind_opening sheet.old.at tick p self.old.holder) }
+        ensures symbols { sheet.new.symbols.now ≡ sheet.old.symbols.now }
+        ensures reached { OnOk result (sheet.new.at ≡ tick_behind_opening sheet.old.at tick p self.old.holder) }
         ensures holder { OnOk result (self.new ≡ record self.old { holder = Some (opened p tick self.old.holder) }) }
         ensures dump { sheet.old.form ≡ Vcd → OnOk result (Appends (W.contents out.old) (W.contents out.new)
             (opening_lines sheet.old.at tick p self.old.holder)) }
@@ -242,7 +249,7 @@ impl Board {
         ensures form { sheet.new.form ≡ sheet.old.form }
         ensures symbols { sheet.new.symbols.now ≡ sheet.old.symbols.now }
         ensures holder { self.new ≡ record self.old { holder = None } }
-        ensures behind { sheet.old.form ≡ Vcd → sheet.new.at ≡ tick_behind_closing sheet.old.at tick self.old.holder }
+        ensures behind { sheet.new.at ≡ tick_behind_closing sheet.old.at tick self.old.holder }
         ensures dump { sheet.old.form ≡ Vcd → OnOk result (Appends (W.contents out.old) (W.contents out.new)
             (closing_lines sheet.old.at tick self.old.holder)) }
         ensures events { sheet.old.form ≡ Events → OnOk result (Appends (W.contents out.old) (W.contents out.new)

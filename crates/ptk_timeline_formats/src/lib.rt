@@ -13,10 +13,11 @@
 //!   which changes a view writes: of what is shown, all that is not as before (`dump` of `PartView::show`, `decide`,
 //!   `go_on` and `settle`: `part_text`), and all of it at the first tick (`dump` of `PartView::put_all`:
 //!   `first_text`).
-//! - A whole Value Change Dump is one of the run's (`dump` of `dump_with`: `IsDump`): the head, with a scope for each
-//!   partition and each thread (`dump_head`); what is shown at the first tick (`AreFirstViews`); then turn after turn
-//!   of the window plan, up to the last tick, with none left out (`IsTurn`); and in a window stretch after stretch,
-//!   each a decision, the plain steps behind it, and ticks at which nothing of the partition changes (`IsStretch`).
+//! - A whole Value Change Dump, and all trace events, are one of the run's (`dump` and `events` of `dump_with`:
+//!   `IsRun`): the head (`run_head`); what is shown at the first tick (`AreFirstViews`); then turn after turn of the
+//!   window plan, up to the last tick, with none left out (`IsTurn`); in a window stretch after stretch, each a
+//!   decision, the plain steps behind it, and ticks at which nothing of the partition changes (`IsStretch`); and the
+//!   end (`run_end`).
 //! - What trace events have of changes is the definition's too (`events` of `Sheet::put_each`: `changes_events`), and
 //!   so is which changes a view writes: of what is shown, all that is not as before (`events` of `PartView::show`,
 //!   `go_on` and `settle`: `part_events`), at a decision what is lost too (`decide`: `decision_events`), the names of

@@ -1,14 +1,15 @@
 //! Runs, written.
 
-ghost use Rattle.std.specs.Prelude.{◌≡◌, ◌≢◌, ℕ, ◌<◌, ◌≤◌, List, None, IfErr, IfOk, MatchResult, OnOk};
+ghost use Rattle.std.specs.Prelude.{◌≡◌, ◌≢◌, ℕ, ◌<◌, ◌≤◌, List, ◌++◌, None, IfErr, IfOk, MatchResult, OnOk, codes};
 ghost use Rattle.std.specs.Io.KnownBytes.{Appends};
 ghost use Rattle.ptk_words.specs.declared.TheConstants.{LAST_TICK};
 ghost use Rattle.ptk_timeline_changes.specs.Missing.{first_missing};
 ghost use Rattle.ptk_timeline_changes.specs.World.{world_at};
 ghost use Rattle.ptk_timeline_formats.specs.declared.fault.FormatFault.TheVariants.{FromPastEnd};
-ghost use Rattle.ptk_timeline_formats.specs.declared.sheet.Form.TheVariants.{Vcd};
+ghost use Rattle.ptk_timeline_formats.specs.declared.sheet.Form.TheVariants.{Vcd, Events};
 ghost use Rattle.ptk_timeline_formats.specs.Faults.{missing_in_format};
-ghost use Rattle.ptk_timeline_formats.specs.Runs.{IsDump, PutsDump, last_line};
+ghost use Rattle.ptk_timeline_formats.specs.Outputs.{last_line, output_of, rest_events};
+ghost use Rattle.ptk_timeline_formats.specs.Runs.{IsRun, PutsDump, PutsTrace};
 
 use crate::board::Board;
 use crate::fault::FormatFault;
@@ -46,6 +47,7 @@ pub fn dump_with<W: Write>(
         (λ fault. fault ≢ FromPastEnd → first_missing files.now config.now.sections ≡ missing_in_format fault) }
     ensures silent { IfErr result (λ fault. fault ≢ FormatFault.Write → fault ≢ FormatFault.Memory → out.new ≡ out.old) }
     ensures dump { form ≡ Vcd → OnOk result (PutsDump (world_at config.now files.now from) from ticks (W.contents out.old) (W.contents out.new)) }
+    ensures events { form ≡ Events → OnOk result (PutsTrace symbols.now (world_at config.now files.now from) from ticks (W.contents out.old) (W.contents out.new)) }
 {
     if ticks.ticks() <= from.ticks() {
         return Err(FormatFault::FromPastEnd);
@@ -91,8 +93,8 @@ fn put_run<W: Write>(
     out: &mut W,
 ) -> Result<(), PutFault>
     requires within { sheet.old.at ≤ sheet.old.to }
-    ensures { sheet.old.form ≡ Vcd → OnOk result ((text : List ℕ) × Appends (W.contents out.old) (W.contents out.new) text
-        × IsDump config.now system.old sheet.old.at sheet.old.to text) }
+    ensures { OnOk result ((text : List ℕ) × Appends (W.contents out.old) (W.contents out.new) text
+        × IsRun (output_of sheet.old.form sheet.old.symbols.now) config.now system.old sheet.old.at sheet.old.to text) }
 {
     let mut board = Board::new(alloc, system)?;
     sheet.put_head(config, out)?;
@@ -109,8 +111,10 @@ fn put_end<W: Write>(
     out: &mut W,
 ) -> Result<(), PutFault>
     requires within { sheet.old.at ≤ sheet.old.to }
-    ensures { sheet.old.form ≡ Vcd → OnOk result (Appends (W.contents out.old) (W.contents out.new)
+    ensures dump { sheet.old.form ≡ Vcd → OnOk result (Appends (W.contents out.old) (W.contents out.new)
         (last_line sheet.old.at sheet.old.to)) }
+    ensures events { sheet.old.form ≡ Events → OnOk result (Appends (W.contents out.old) (W.contents out.new)
+        (rest_events sheet.old.symbols.now sheet.old.to board.old ++ codes "\n]}\n")) }
 {
     match sheet.form() {
         Form::Vcd => sheet.reach(sheet.to(), out),

@@ -63,6 +63,7 @@ impl<'a, 's> Sheet<'a, 's> {
         ensures at { result.at ≡ from }
         ensures to { result.to ≡ to }
         ensures form { result.form ≡ form }
+        ensures symbols { result.symbols.now ≡ symbols.now }
     {
         Sheet {
             form,

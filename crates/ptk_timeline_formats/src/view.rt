@@ -6,6 +6,7 @@ ghost use Rattle.ptk_words.specs.declared.TheConstants.{LAST_TICK, THREAD_LIMIT}
 ghost use Rattle.ptk_timeline_changes.specs.World.{at_tick, but_next, state_of};
 ghost use Rattle.ptk_timeline_changes.specs.Steps.{is_step_over, step_since, step_within, tick_behind_step};
 ghost use Rattle.ptk_timeline_formats.specs.declared.sheet.Form.TheVariants.{Vcd, Events};
+ghost use Rattle.ptk_timeline_formats.specs.Outputs.{output_of};
 ghost use Rattle.ptk_timeline_formats.specs.Runs.{IsStretch, IsWindow};
 ghost use Rattle.ptk_timeline_formats.specs.Texts.{first_text, part_behind, part_text};
 ghost use Rattle.ptk_timeline_formats.specs.Traces.{decision_events, first_events, last_events, lost_events, part_events};
@@ -66,10 +67,9 @@ impl PartView {
     ) -> Result<(), PutFault>
         requires partition { p < length system.now.config.sections }
         requires within { sheet.old.at ≤ sheet.old.to }
-        ensures within { sheet.new.at ≤ sheet.old.at }
         ensures to { sheet.new.to ≡ sheet.old.to }
         ensures form { sheet.new.form ≡ sheet.old.form }
-        ensures reached { sheet.old.form ≡ Vcd → OnOk result (sheet.new.at ≡ sheet.old.at) }
+        ensures at { sheet.new.at ≡ sheet.old.at }
         ensures dump { sheet.old.form ≡ Vcd → OnOk result (Appends (W.contents out.old) (W.contents out.new) (first_text p self.now)) }
         ensures symbols { sheet.new.symbols.now ≡ sheet.old.symbols.now }
         ensures events { sheet.old.form ≡ Events → OnOk result (Appends (W.contents out.old) (W.contents out.new)
@@ -135,8 +135,8 @@ impl PartView {
         ensures form { sheet.new.form ≡ sheet.old.form }
         ensures symbols { sheet.new.symbols.now ≡ sheet.old.symbols.now }
         ensures config { system.new.config ≡ system.old.config }
-        ensures dump { sheet.old.form ≡ Vcd → OnOk result ((lines : List ℕ) × Appends (W.contents out.old) (W.contents out.new) lines
-            × IsWindow p from end system.old system.new sheet.old.at sheet.new.at self.old self.new lines) }
+        ensures text { OnOk result ((lines : List ℕ) × Appends (W.contents out.old) (W.contents out.new) lines
+            × IsWindow (output_of sheet.old.form sheet.old.symbols.now) p from end system.old system.new sheet.old.at sheet.new.at self.old self.new lines) }
     {
         self.step = None;
         let mut tick = due(system, p, from, end);
@@ -167,8 +167,8 @@ impl PartView {
         ensures form { sheet.new.form ≡ sheet.old.form }
         ensures config { system.new.config ≡ system.old.config }
         ensures symbols { sheet.new.symbols.now ≡ sheet.old.symbols.now }
-        ensures dump { sheet.old.form ≡ Vcd → IfOk result (λ next. (lines : List ℕ) × Appends (W.contents out.old) (W.contents out.new) lines
-            × IsStretch p end (record { world = system.old; due = tick; at = sheet.old.at; view = self.old })
+        ensures text { IfOk result (λ next. (lines : List ℕ) × Appends (W.contents out.old) (W.contents out.new) lines
+            × IsStretch (output_of sheet.old.form sheet.old.symbols.now) p end (record { world = system.old; due = tick; at = sheet.old.at; view = self.old })
             (record { world = system.new; due = next; at = sheet.new.at; view = self.new }) lines) }
     {
         system.run_to(Tick::new(tick + 1));

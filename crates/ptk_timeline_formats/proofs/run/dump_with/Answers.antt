@@ -1,15 +1,32 @@
-use Rattle.std.proofs.Common.{◌≡◌, ◌∙◌, arith}
+use Rattle.std.proofs.Common.{◌≡◌, ◌∙◌, ap₂, arith}
 use Rattle.ptk_timeline_changes.specs.World.{world_at}
-use Rattle.ptk_timeline_formats.proofs.Wholes.{dump_by}
+use Rattle.ptk_timeline_formats.specs.declared.sheet.Form.TheVariants.{Vcd, Events}
+use Rattle.ptk_timeline_formats.specs.Outputs.{Dump, Trace, output_of}
+use Rattle.ptk_timeline_formats.proofs.Wholes.{run_by}
 use Rattle.ptk_timeline_formats.proofs.run.dump_with.Goals as goal
 
 pub returns-in-Ok-clause-dump : goal.returns-in-Ok-clause-dump
 returns-in-Ok-clause-dump g c = λ vcd.
-    let dump = c.in-Ok.ensures (c.new-sheet.ensures.form ∙ vcd) in
+    let sheet = c.new-sheet.result in
+    let same : output_of sheet.form sheet.symbols.now ≡ output_of Vcd c.args.symbols.now = ap₂ output_of (c.new-sheet.ensures.form ∙ vcd) c.new-sheet.ensures.symbols in
+    let run = c.in-Ok.ensures in
     let from : c.new-sheet.result.at ≡ c.args.from = omega arith in
     let to : c.new-sheet.result.to ≡ c.args.ticks = omega arith in (
-      dump.0,
-      dump.1,
-      dump_by c.args.config.now c.in_ok-system.system (world_at c.args.config.now c.args.files.now c.args.from) c.new-sheet.result.at c.args.from
-          c.new-sheet.result.to c.args.ticks dump.0 c.in_ok-system.ensures.reached from to dump.2,
+      run.0,
+      run.1,
+      run_by Dump (output_of sheet.form sheet.symbols.now) c.args.config.now c.in_ok-system.system (world_at c.args.config.now c.args.files.now c.args.from) sheet.at c.args.from
+          sheet.to c.args.ticks run.0 same c.in_ok-system.ensures.reached from to run.2,
+    )
+
+pub returns-in-Ok-clause-events : goal.returns-in-Ok-clause-events
+returns-in-Ok-clause-events g c = λ traced.
+    let sheet = c.new-sheet.result in
+    let same : output_of sheet.form sheet.symbols.now ≡ output_of Events c.args.symbols.now = ap₂ output_of (c.new-sheet.ensures.form ∙ traced) c.new-sheet.ensures.symbols in
+    let run = c.in-Ok.ensures in
+    let from : c.new-sheet.result.at ≡ c.args.from = omega arith in
+    let to : c.new-sheet.result.to ≡ c.args.ticks = omega arith in (
+      run.0,
+      run.1,
+      run_by (Trace c.args.symbols.now) (output_of sheet.form sheet.symbols.now) c.args.config.now c.in_ok-system.system (world_at c.args.config.now c.args.files.now c.args.from) sheet.at c.args.from
+          sheet.to c.args.ticks run.0 same c.in_ok-system.ensures.reached from to run.2,
     )

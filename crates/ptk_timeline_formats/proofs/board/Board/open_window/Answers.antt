@@ -6,14 +6,15 @@ use Rattle.std.proofs.lemmas.Result.{on_ok_weaker}
 use Rattle.ptk_timeline_changes.specs.declared.change.Change.TheVariants.{WindowBegins}
 use Rattle.ptk_timeline_formats.specs.Changes.{change_lines}
 use Rattle.ptk_timeline_formats.specs.Holders.{closing_events, closing_lines, is_open, tick_behind_closing}
+use Rattle.ptk_timeline_formats.proofs.Outputs.{either, ok_always}
 use Rattle.ptk_timeline_formats.proofs.board.Board.open_window.Goals as goal
 
 pub returns-clause-reached : goal.returns-clause-reached
-returns-clause-reached g c = λ vcd.
+returns-clause-reached g c =
     let closed : is_open c.args.p c.args.self.now.holder ≡ false = sym c.is_open.ensures ∙ c.if-is_open.false in
-    on_ok_weaker c.put.result
-    (λ last. subst (λ (b : Bool). c.put.new.self.at ≡ (if b then c.args.sheet.now.at else c.args.tick)) (sym closed) (c.put.ensures.behind (c.close_window.ensures.form ∙ vcd)))
-    (c.put.ensures.dump (c.close_window.ensures.form ∙ vcd))
+    ok_always c.put.result
+    (subst (λ (b : Bool). c.put.new.self.at ≡ (if b then c.args.sheet.now.at else c.args.tick)) (sym closed)
+    (either c.close_window.new.sheet.form (c.put.new.self.at ≡ c.args.tick) c.put.ensures.behind c.put.ensures.reached))
 
 pub returns-clause-dump : goal.returns-clause-dump
 returns-clause-dump g c = λ vcd.
@@ -24,7 +25,7 @@ returns-clause-dump g c = λ vcd.
     (Appends-trans (g.W.Write.contents c.args.out.now) (g.W.Write.contents c.close_window.new.out) (g.W.Write.contents c.put.new.out)
     (closing_lines c.args.sheet.now.at c.args.tick c.args.self.now.holder) (change_lines (tick_behind_closing c.args.sheet.now.at c.args.tick c.args.self.now.holder) c.args.tick c.args.p WindowBegins)
     (c.in_ok-close_window.ensures.dump vcd)
-    (subst (λ (at : ℕ). Appends (g.W.Write.contents c.close_window.new.out) (g.W.Write.contents c.put.new.out) (change_lines at c.args.tick c.args.p WindowBegins)) (c.close_window.ensures.behind vcd) last)))
+    (subst (λ (at : ℕ). Appends (g.W.Write.contents c.close_window.new.out) (g.W.Write.contents c.put.new.out) (change_lines at c.args.tick c.args.p WindowBegins)) c.close_window.ensures.behind last)))
     (c.put.ensures.dump (c.close_window.ensures.form ∙ vcd))
 
 pub returns-clause-events : goal.returns-clause-events

@@ -17,10 +17,9 @@ use Rattle.ptk_timeline_formats.proofs.view.PartView.put_all.Goals as goal
 
 pub loop-i-init : goal.loop-i-init
 loop-i-init g c = record {
-  within = c.put_each.ensures.within;
+  there = omega (arith, c.put_each.ensures.from, c.put_each.ensures.within, c.at-tick.ensures);
   to = refl;
   form = refl;
-  there = λ vcd. c.in_ok-put_each.ensures.behind (sym c.put_each.ensures.form ∙ vcd);
   values = λ vcd. no_values c.args.p (take THREAD_LIMIT c.args.self.now.threads.items) (g.W.Write.contents c.put_each.new.out);
   symbols = refl;
   events = λ traced. Appends-nil (g.W.Write.contents c.put_each.new.out);
@@ -34,10 +33,9 @@ loop-i-preserved g c =
     omega (arith, length-take THREAD_LIMIT c.args.self.now.threads.items, c.args.self.now.threads.ok.0) in
     let is : get_or (take THREAD_LIMIT c.args.self.now.threads.items) c.loop-i.i c.index.result.now ≡ c.index.result.now =
     get_or-take THREAD_LIMIT c.args.self.now.threads.items c.loop-i.i c.index.result.now few ∙ sym c.index.ensures in record {
-      within = c.put.ensures.within;
+      there = omega (arith, c.put.ensures.from, c.put.ensures.within, c.loop-i.invariant.there);
       to = c.put.ensures.to ∙ c.loop-i.invariant.to;
       form = c.put.ensures.form ∙ c.loop-i.invariant.form;
-      there = λ vcd. c.put.ensures.behind (c.loop-i.invariant.form ∙ vcd);
       values = λ vcd. more_values c.args.p (take THREAD_LIMIT c.args.self.now.threads.items)
           (g.W.Write.contents c.put_each.new.out) (g.W.Write.contents c.loop-i.out) (g.W.Write.contents c.put.new.out)
           c.loop-i.i c.index.result.now c.index.result.now some is (c.loop-i.invariant.values vcd)
@@ -47,7 +45,7 @@ loop-i-preserved g c =
           (lines_there c.at-tick.result (state_line c.args.p c.new-t.result c.index.result.now.shown ++ priority_line c.args.p c.new-t.result c.index.result.now.shown))
           (subst (λ (at : ℕ). Appends (g.W.Write.contents c.loop-i.out) (g.W.Write.contents c.put.new.out)
           (lines_at at c.at-tick.result (state_line c.args.p c.new-t.result c.index.result.now.shown ++ priority_line c.args.p c.new-t.result c.index.result.now.shown)))
-          (c.loop-i.invariant.there vcd) (c.in_ok-put.ensures.dump (c.loop-i.invariant.form ∙ vcd)))));
+          c.loop-i.invariant.there (c.in_ok-put.ensures.dump (c.loop-i.invariant.form ∙ vcd)))));
       symbols = c.put.ensures.symbols ∙ c.loop-i.invariant.symbols;
       events = λ traced.
           numbered_more (numbered_start c.put_each.new.self.symbols.now (state_of c.args.system.now c.args.p).part c.args.p c.at-tick.result) 1
@@ -56,11 +54,6 @@ loop-i-preserved g c =
           (start_traced c.loop-i.sheet.symbols.now c.put_each.new.self.symbols.now (state_of c.args.system.now c.args.p).part c.args.p c.at-tick.result c.new-t.result c.index.result.now c.start_of-start.result
           (g.W.Write.contents c.loop-i.out) (g.W.Write.contents c.put.new.out) c.loop-i.invariant.symbols c.start_of-start.ensures (c.in_ok-put.ensures.events (c.loop-i.invariant.form ∙ traced)));
     }
-
-pub returns-clause-reached : goal.returns-clause-reached
-returns-clause-reached g c = λ vcd.
-    let first : c.put_each.new.self.form ≡ Vcd = c.put_each.ensures.form ∙ vcd in
-    c.loop-i.invariant.there first ∙ c.at-tick.ensures
 
 pub returns-clause-dump : goal.returns-clause-dump
 returns-clause-dump g c = λ vcd.

@@ -1,4 +1,4 @@
-use Rattle.std.proofs.Common.{◌≡◌, ◌≤◌, flat_map, take}
+use Rattle.std.proofs.Common.{◌≡◌, flat_map, take}
 use Rattle.std.specs.List.{enumerate_from}
 use Rattle.std.specs.Io.KnownBytes.{Appends}
 use Rattle.ptk_words.specs.declared.TheConstants.{THREAD_LIMIT}
@@ -10,10 +10,9 @@ use Rattle.ptk_timeline_formats.proofs.view.PartView.put_all.Given as goal
 
 abbrev pub invariant-loop-i : goal.invariant-loop-i
 invariant-loop-i g l = record {
-  within : l.sheet.at ≤ l.tick;
+  there : l.sheet.at ≡ l.tick;
   to : l.sheet.to ≡ l.initial.sheet.to;
   form : l.sheet.form ≡ l.initial.sheet.form;
-  there : l.initial.sheet.form ≡ Vcd → l.sheet.at ≡ l.tick;
   values : l.initial.sheet.form ≡ Vcd → AreValues l.p (take THREAD_LIMIT l.self.threads.items) (g.W.Write.contents l.initial.out) (g.W.Write.contents l.out) l.i;
   symbols : l.sheet.symbols.now ≡ l.initial.sheet.symbols.now;
   events : l.initial.sheet.form ≡ Events → Appends (g.W.Write.contents l.initial.out) (g.W.Write.contents l.out)

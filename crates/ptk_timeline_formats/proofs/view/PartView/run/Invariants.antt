@@ -1,6 +1,6 @@
 use Rattle.std.proofs.Common.{◌≡◌, ◌-◌, ◌≤◌, ℕ, List}
 use Rattle.std.specs.Io.KnownBytes.{Appends}
-use Rattle.ptk_timeline_formats.specs.declared.sheet.Form.TheVariants.{Vcd}
+use Rattle.ptk_timeline_formats.specs.Outputs.{output_of}
 use Rattle.ptk_timeline_formats.specs.Runs.{AreStretches}
 use Rattle.ptk_timeline_formats.proofs.view.PartView.run.Given as goal
 
@@ -12,8 +12,8 @@ invariant-loop-tick g l = record {
   config : l.system.config ≡ l.initial.system.config;
   form : l.sheet.form ≡ l.initial.sheet.form;
   symbols : l.sheet.symbols.now ≡ l.initial.sheet.symbols.now;
-  goes : l.initial.sheet.form ≡ Vcd → (lines : List ℕ) × Appends (g.W.Write.contents l.initial.out) (g.W.Write.contents l.out) lines
-      × AreStretches l.p l.end
+  goes : (lines : List ℕ) × Appends (g.W.Write.contents l.initial.out) (g.W.Write.contents l.out) lines
+      × AreStretches (output_of l.initial.sheet.form l.initial.sheet.symbols.now) l.p l.end
       (record { world = l.initial.system; due = l.initial.tick; at = l.initial.sheet.at; view = l.initial.self })
       (record { world = l.system; due = l.tick; at = l.sheet.at; view = l.self }) lines;
 }
