@@ -10,7 +10,7 @@ use Rattle.ptk_main_faults.specs.Statuses.{status_number}
 use Rattle.ptk_main_faults.specs.declared.status.ExitStatus.TheVariants.{Done, HostFailure, Usage}
 use Rattle.ptk_main_files.specs.Usage.{IsUsageStatus}
 use Rattle.ptk_main_commands.specs.Refusals.{AreHelp, AreWrong}
-use Rattle.ptk_main_commands.specs.Statuses.{IsHelpStatus, IsTakenStatus}
+use Rattle.ptk_main_commands.specs.Statuses.{IsHelpStatus, IsUnasked}
 
 -- by the kind of the error
 of_kind : (kind : ErrorKind) (status : ℕ) → (kind ≡ OutOfMemory → status ≡ status_number HostFailure) → (kind ≢ OutOfMemory → kind ≢ DisplayHelp → kind ≢ DisplayVersion → status ≡ status_number Usage)
@@ -39,8 +39,17 @@ invalid_status kind status wrong (inr none) = absurd none
 
 -- of words that clap takes
 pub taken_status : (words : List Text) (error : Error) (status : ℕ) → (kind_of error ≡ OutOfMemory → status ≡ status_number HostFailure)
-    → (kind_of error ≢ OutOfMemory → kind_of error ≢ DisplayHelp → kind_of error ≢ DisplayVersion → status ≡ status_number Usage) → IsRefusal words error → fault_of ptk words ≡ [] → IsTakenStatus words status
-taken_status words error status memory wrong (inl (inl e)) taken = inr (inr (memory e))
+    → (kind_of error ≢ OutOfMemory → kind_of error ≢ DisplayHelp → kind_of error ≢ DisplayVersion → status ≡ status_number Usage) → IsRefusal words error → fault_of ptk words ≡ [] → IsUnasked words status
+taken_status words error status memory wrong (inl (inl e)) taken = inr (memory e)
 taken_status words error status memory wrong (inl (inr among)) taken = absurd (subst (λ (kinds : List ErrorKind). IsAmong (kind_of error) kinds) taken among)
 taken_status words error status memory wrong (inr other) taken =
-    elim other.2 [ inl e ↦ inr (inr (memory e)) | inr among ↦ inr (inl (other.1, invalid_status (kind_of error) status wrong among)) ]
+    elim other.2 [ inl e ↦ inr (memory e) | inr among ↦ inl (other.1, invalid_status (kind_of error) status wrong among) ]
+
+-- of any words that clap does not take, by the kind of the error
+pub refused_status : (kind : ErrorKind) (status : ℕ) → (kind ≡ OutOfMemory → status ≡ status_number HostFailure)
+    → ((kind ≡ DisplayHelp) ⊎ (kind ≡ DisplayVersion) → (status ≡ status_number Done) ⊎ (status ≡ status_number HostFailure))
+    → (kind ≢ OutOfMemory → kind ≢ DisplayHelp → kind ≢ DisplayVersion → status ≡ status_number Usage) → IsUsageStatus status ⊎ IsHelpStatus status
+refused_status OutOfMemory status memory help wrong = inl (inr (memory refl))
+refused_status DisplayHelp status memory help wrong = inr (help (inl refl))
+refused_status DisplayVersion status memory help wrong = inr (help (inr refl))
+refused_status kind status memory help wrong = inl (inl (wrong (λ e. absurd (cc)) (λ e. absurd (cc)) (λ e. absurd (cc))))

@@ -1,14 +1,14 @@
 -- What the requests of this crate write of a configuration and the images that were read of it.
-use Rattle.std.specs.Prelude.{◌≡◌, ◌<◌, ◌≤◌, ℕ, List, Option, Some, None, Ok, length, option_and_then, unwrap_or}
+use Rattle.std.specs.Prelude.{◌≡◌, ◌<◌, ◌≤◌, ℕ, List, Option, Some, None, length, option_and_then, unwrap_or}
 use Rattle.std.specs.Borrow.{Bor}
 use Rattle.std.specs.Io.KnownBytes.{Appends}
 use Rattle.ptk_words.specs.declared.TheConstants.{THREAD_LIMIT}
-use Rattle.ptk_symbols.specs.Tables.{exact, table_of}
+use Rattle.ptk_symbols.specs.Tables.{exact}
 use Rattle.ptk_config.specs.Configuration.{Configuration}
 use Rattle.ptk_timeline.specs.Starts.{routine_of, seen_to}
 use Rattle.ptk_timeline.below.ptk_timeline_starts.specs.declared.starts.Names.{Names}
 use Rattle.ptk_timeline.specs.Picture.{IsPictureOf}
-use Rattle.ptk_timeline_formats.specs.Runs.{PutsDump}
+use Rattle.ptk_timeline_formats.specs.Runs.{PutsDump, PutsTrace}
 use Rattle.ptk_statistics.specs.Answered.{PutsRun}
 use Rattle.ptk_statistics.specs.Tables.{PutsTables}
 use Rattle.ptk_statistics.specs.declared.answer.Form.{Form as Figures}
@@ -19,12 +19,13 @@ use Rattle.ptk_explanation.specs.declared.answer.Form.TheVariants as standing
 use Rattle.ptk_main_line.specs.declared.requests.ExplainOptions.{ExplainOptions}
 use Rattle.ptk_main_line.specs.declared.requests.Format.{Format}
 use Rattle.ptk_main_line.specs.declared.requests.Format.TheVariants as form
-use Rattle.ptk_main_line.specs.declared.requests.PictureFormat.TheVariants.{Svg, Vcd}
+use Rattle.ptk_main_line.specs.declared.requests.PictureFormat.TheVariants.{Json, Svg, Vcd}
 use Rattle.ptk_main_line.specs.declared.requests.StatsOptions.{StatsOptions}
 use Rattle.ptk_main_line.specs.declared.requests.TimelineOptions.{TimelineOptions}
 use Rattle.ptk_main_files.specs.NamedFiles.{NamedFile}
 use Rattle.ptk_main_files.specs.Outcomes.{partition_refusal}
 use Rattle.ptk_main_files.specs.Parts.{part_named}
+use Rattle.ptk_main_files.specs.Reading.{AreSymbolsOf}
 use Rattle.ptk_main_files.specs.World.{World, world_at}
 use Rattle.ptk_main_commands.specs.Refusals.{picture_refusal, stats_refusal}
 
@@ -57,12 +58,11 @@ abbrev pub PutsStanding : Standing → List (ℕ × List ℕ) → Configuration 
 PutsStanding shown symbols config files ticks name old new =
     (p : ℕ) × (part_named config name ≡ Some p) × (text : List ℕ) × IsExplanation shown symbols (world_at config files 0) ticks p text × Appends old new text
 
--- with these images nothing is refused, and how the partition stands is written in the form that is asked for, with the symbols of a text (own)
+-- with these images nothing is refused, and how the partition stands is written in the form that is asked for, with the symbols that are named (own)
 pub record IsExplanationOf (options : ExplainOptions) (config : Configuration) (old new : Option (List ℕ)) (files : List NamedFile) : Type 0 where
   pub accepted : partition_refusal options.partition.now config files ≡ None
-  pub bytes : List ℕ
   pub symbols : List (ℕ × List ℕ)
-  pub table : table_of bytes ≡ Ok symbols
+  pub named : AreSymbolsOf options.symbols symbols
   pub written : PutsStanding (standing_in options.format) symbols config files options.run.ticks options.partition.now old new
 
 -- ---- a picture
@@ -82,11 +82,11 @@ PutsPicture symbols config files from to old new =
     (names : Names) × AreRoutines symbols (world_at config files 0) to (routine_of names)
     × (text : List ℕ) × IsPictureOf config (world_at config files 0) names from to text × Appends old new text
 
--- with these images nothing is refused, and of the ticks that are asked for the picture is written as SVG, with the symbols of a text, or as a Value Change Dump (own)
+-- with these images nothing is refused, and of the ticks that are asked for the picture is written as SVG, with the symbols that are named, as a Value Change Dump, or as trace events (own)
 pub record IsTimelineOf (options : TimelineOptions) (config : Configuration) (old new : Option (List ℕ)) (files : List NamedFile) : Type 0 where
   pub accepted : picture_refusal options config files ≡ None
-  pub bytes : List ℕ
   pub symbols : List (ℕ × List ℕ)
-  pub table : table_of bytes ≡ Ok symbols
+  pub named : AreSymbolsOf options.symbols symbols
   pub drawn : options.format ≡ Svg → PutsPicture symbols config files (unwrap_or options.from 0) options.run.ticks old new
   pub dumped : options.format ≡ Vcd → PutsDump (world_at config files (unwrap_or options.from 0)) (unwrap_or options.from 0) options.run.ticks old new
+  pub noted : options.format ≡ Json → PutsTrace symbols (world_at config files (unwrap_or options.from 0)) (unwrap_or options.from 0) options.run.ticks old new

@@ -3,6 +3,7 @@
 ghost use Rattle.std.specs.Prelude.{◌≡◌, ◌≤◌, None, Some, IfErr, MatchResult, OnOk};
 ghost use Rattle.std.specs.Option.{option_map_or};
 ghost use Rattle.ptk_words.specs.declared.TheConstants.{LAST_TICK};
+ghost use Rattle.ptk_main_faults.specs.HostFaults.{IsHostFault};
 ghost use Rattle.ptk_main_files.specs.Outcomes.{IsRefused, WithImages};
 ghost use Rattle.ptk_main_files.specs.Parts.{part_named};
 ghost use Rattle.ptk_main_files.specs.Refusals.{IsFaultOf, missing_image, refused_trace};
@@ -20,13 +21,13 @@ use ptk_words::Tick;
 use std::alloc::Global;
 use std::io::Write;
 
-/// The figures of a run of the configuration in a file.
-pub(crate) fn stats(rt: &HostRuntime, options: StatsOptions<'_>) -> u8
+/// The figures of a run of the configuration in a file, on a writer.
+pub(crate) fn stats<W: Write>(rt: &HostRuntime, options: StatsOptions<'_>, out: &mut W) -> u8
     requires { options.run.ticks ≤ LAST_TICK }
-    ensures { IsStatsEnd options.entry result }
+    ensures { IsStatsEnd options.entry (W.contents out.old) (W.contents out.new) result }
 {
     match config_in(rt, options.run.file) {
-        Ok(config) => end(rt, stats_config(rt, &config, options, &mut rt.stdout())),
+        Ok(config) => end(rt, stats_config(rt, &config, options, out)),
         Err(fault) => tell(rt, &fault),
     }
 }
@@ -41,6 +42,7 @@ fn stats_config<'a, W: Write>(
     requires { options.run.ticks ≤ LAST_TICK }
     ensures accepted { OnOk result (WithImages config.now.sections (IsStatsOf options.entry config.now (W.contents out.old) (W.contents out.new))) }
     ensures refused { IfErr result (IsRefused config.now.sections (stats_refusal options.entry.partition config.now) (stats_refusal options.entry.partition config.now)) }
+    ensures silent { IfErr result (λ fault. ¬ IsHostFault fault → out.new ≡ out.old) }
 {
     let files = images_of(rt, config, options.run.root)?;
     let ticks = Tick::new(options.run.ticks);
@@ -71,6 +73,7 @@ fn stats_answer<'a, W: Write>(
         name.entry (missing_image config.now files.now) in
         MatchResult result (λ _. refusal ≡ None) (IsFaultOf refusal refusal) }
     ensures written { OnOk result (PutsFigures form (world_at config.now files.now 0) ticks name.entry (W.contents out.old) (W.contents out.new)) }
+    ensures silent { IfErr result (λ fault. ¬ IsHostFault fault → out.new ≡ out.old) }
 {
     match name {
         Some(name) => stats_of_one(alloc, config, files, ticks, name, form, out),
@@ -102,6 +105,7 @@ fn stats_of_one<'a, W: Write>(
     ensures refused { let refusal = refused_trace (part_named config.now name.now) config.now files.now name.now in
         MatchResult result (λ _. refusal ≡ None) (IsFaultOf refusal refusal) }
     ensures written { OnOk result (PutsFigures form (world_at config.now files.now 0) ticks (Some name.entry) (W.contents out.old) (W.contents out.new)) }
+    ensures silent { IfErr result (λ fault. ¬ IsHostFault fault → out.new ≡ out.old) }
 {
     match stats_with(alloc, config, files, ticks, Some(name), form, out) {
         Ok(()) => Ok(()),
@@ -122,6 +126,7 @@ fn stats_of_all<'a, W: Write>(
     ensures refused { let refusal = missing_image config.now files.now in
         MatchResult result (λ _. refusal ≡ None) (IsFaultOf refusal refusal) }
     ensures written { OnOk result (PutsFigures form (world_at config.now files.now 0) ticks None (W.contents out.old) (W.contents out.new)) }
+    ensures silent { IfErr result (λ fault. ¬ IsHostFault fault → out.new ≡ out.old) }
 {
     match stats_with(alloc, config, files, ticks, None, form, out) {
         Ok(()) => Ok(()),

@@ -1,19 +1,21 @@
 #![tactic(auto)]
 
-//! What the program `ptk` does with the words of its command line, over real files and its own streams: the number of
-//! the status of each request (`answer_words`, `obey`), among them `timeline`, `explain` and `stats`.
+//! What the program `ptk` does with the words of its command line, over real files and its own streams: what each
+//! request writes, and the number of its status (`answer_words`, `answer_to`, `obey`), among them `timeline`, `explain`
+//! and `stats`.
 //!
 //! - A run, a trace or a picture is asked for at most 2^40 ticks (`obey`, `requires`).
-//! - Words that `clap` refuses, and that ask for no help, end with a usage error, or for memory. Those that it takes
-//!   end with the status of what they ask for, with a usage error where they ask for nothing, or for memory
-//!   (`answer_words`).
-//! - The status of a request is that of its own command, by what came of it (`obey`).
-//! - `stats`, `timeline` and `explain` are done only where, for some files that are images of the sections and nothing
-//!   else, nothing is refused; a fault is of a file that is not read, by its name, or the refusal for such files.
-//! - `stats_config` and `explain_config` write the figures and how the partition stands, of the run that is asked for,
-//!   as text or as JSON; `timeline_config` writes the picture of the ticks that are asked for as SVG or as a Value
-//!   Change Dump. Of trace events the refusals alone are promised (`timeline_answer`).
-//! - Which files it reads is tested; that the writer is standard output is neither proved nor tested.
+//! - Words that `clap` does not take end with a usage error, with the status of a request for help, or for memory, and
+//!   write nothing on the writer. Those that it takes end with the status of what they ask for; with a usage error
+//!   where they ask for nothing, or for memory, and nothing is written then (`answer_to`: `IsAnswer`).
+//! - The status of a request is that of its own command, by what came of it, and what it has written stands with it
+//!   (`obey`: `IsStatusOf`): it is done only where what was asked for is written.
+//! - So `stats` and `explain` are done only where, for some files that are images of the sections and nothing else, the
+//!   figures, or how the partition stands, of the run that is asked for are written as text or as JSON; `timeline` only
+//!   where the ticks that are asked for are, as SVG, as a Value Change Dump or as trace events. A fault is of a file
+//!   that is not read, by its name, or the refusal for such files, of which nothing is written.
+//! - Which files it reads is tested; that the writer is standard output is neither proved nor tested: `answer_words`
+//!   alone names it.
 //!
 //! Below are the other requests (`ptk_main_files`), and what this crate alone joins: the pictures (`ptk_timeline`,
 //! `ptk_timeline_formats`), the figures (`ptk_statistics`) and the explanation of a run (`ptk_explanation`), which are
@@ -25,7 +27,7 @@ mod counting;
 mod picture;
 mod standing;
 
-pub use commands::{answer_words, obey};
+pub use commands::{answer_to, answer_words, obey};
 pub use picture::timeline_answer;
 pub use ptk_explanation as explanation;
 pub use ptk_main_files::{

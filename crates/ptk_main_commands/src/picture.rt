@@ -7,7 +7,8 @@ ghost use Rattle.ptk_timeline.specs.Starts.{start_of};
 ghost use Rattle.ptk_timeline_formats.specs.Missing.{first_missing};
 ghost use Rattle.ptk_timeline_formats.specs.declared.fault.FormatFault.TheVariants.{FromPastEnd};
 ghost use Rattle.ptk_timeline_formats.specs.Faults.{missing_in_format};
-ghost use Rattle.ptk_timeline_formats.specs.Runs.{PutsDump};
+ghost use Rattle.ptk_timeline_formats.specs.Runs.{PutsDump, PutsTrace};
+ghost use Rattle.ptk_main_faults.specs.HostFaults.{IsHostFault};
 ghost use Rattle.ptk_main_files.specs.Outcomes.{WithImages};
 ghost use Rattle.ptk_main_files.specs.Refusals.{IsFaultOf, refused_picture};
 ghost use Rattle.ptk_main_files.specs.World.{world_at};
@@ -28,13 +29,13 @@ use ptk_words::Tick;
 use std::alloc::Global;
 use std::io::Write;
 
-/// The picture of a run of the configuration in a file.
-pub(crate) fn timeline(rt: &HostRuntime, options: TimelineOptions<'_>) -> u8
+/// The picture of a run of the configuration in a file, on a writer.
+pub(crate) fn timeline<W: Write>(rt: &HostRuntime, options: TimelineOptions<'_>, out: &mut W) -> u8
     requires { options.run.ticks ≤ LAST_TICK }
-    ensures { IsTimelineEnd options.entry result }
+    ensures { IsTimelineEnd options.entry (W.contents out.old) (W.contents out.new) result }
 {
     match config_in(rt, options.run.file) {
-        Ok(config) => end(rt, timeline_config(rt, &config, options, &mut rt.stdout())),
+        Ok(config) => end(rt, timeline_config(rt, &config, options, out)),
         Err(fault) => tell(rt, &fault),
     }
 }
@@ -49,6 +50,7 @@ fn timeline_config<'a, W: Write>(
     requires { options.run.ticks ≤ LAST_TICK }
     ensures accepted { OnOk result (WithImages config.now.sections (IsTimelineOf options.entry config.now (W.contents out.old) (W.contents out.new))) }
     ensures refused { IfErr result (IsNamedRefusal options.entry.symbols config.now (picture_refusal options.entry config.now)) }
+    ensures silent { IfErr result (λ fault. ¬ IsHostFault fault → out.new ≡ out.old) }
 {
     let files = images_of(rt, config, options.run.root)?;
     let text = symbols_text_in(rt, options.symbols)?;
@@ -69,8 +71,8 @@ fn timeline_config<'a, W: Write>(
 
 /// Writes the picture of a run from a tick on. A thread has the name of the symbol that begins where it starts, if one
 /// does: as SVG the last thread of each number, as trace events each that starts from the tick on; a Value Change Dump
-/// has no names. `Fault::NothingFrom` where the run ends at that tick or before it, which is looked at first. Of the
-/// bytes of trace events nothing is promised.
+/// has no names. `Fault::NothingFrom` where the run ends at that tick or before it, which is looked at first. Of a
+/// refusal nothing is written.
 pub fn timeline_answer<'a, W: Write>(
     alloc: Global,
     config: &'a Config,
@@ -88,6 +90,9 @@ pub fn timeline_answer<'a, W: Write>(
         PutsPicture symbols.now config.now files.now from to (W.contents out.old) (W.contents out.new)) }
     ensures dumped { OnOk result (format ≡ PictureFormat.Vcd →
         PutsDump (world_at config.now files.now from) from to (W.contents out.old) (W.contents out.new)) }
+    ensures noted { OnOk result (format ≡ PictureFormat.Json →
+        PutsTrace symbols.now (world_at config.now files.now from) from to (W.contents out.old) (W.contents out.new)) }
+    ensures silent { IfErr result (λ fault. ¬ IsHostFault fault → out.new ≡ out.old) }
 {
     match put_picture(alloc, config, files, symbols, format, from, to, out) {
         Ok(()) => Ok(()),
@@ -120,6 +125,9 @@ fn put_picture<W: Write>(
         PutsPicture symbols.now config.now files.now from to (W.contents out.old) (W.contents out.new)) }
     ensures dumped { OnOk result (format ≡ PictureFormat.Vcd →
         PutsDump (world_at config.now files.now from) from to (W.contents out.old) (W.contents out.new)) }
+    ensures noted { OnOk result (format ≡ PictureFormat.Json →
+        PutsTrace symbols.now (world_at config.now files.now from) from to (W.contents out.old) (W.contents out.new)) }
+    ensures silent { IfErr result (λ fault. fault ≢ FormatFault.Write → fault ≢ FormatFault.Memory → out.new ≡ out.old) }
 {
     match format {
         PictureFormat::Svg => put_svg(alloc, config, files, symbols, from, to, out),
@@ -148,6 +156,7 @@ fn put_svg<W: Write>(
         (λ _. first_missing files.now config.now.sections ≡ None)
         (λ fault. fault ≢ FromPastEnd → first_missing files.now config.now.sections ≡ missing_in_format fault) }
     ensures drawn { OnOk result (PutsPicture symbols.now config.now files.now from to (W.contents out.old) (W.contents out.new)) }
+    ensures silent { IfErr result (λ fault. fault ≢ FormatFault.Write → fault ≢ FormatFault.Memory → out.new ≡ out.old) }
 {
     if to.ticks() <= from.ticks() {
         return Err(FormatFault::FromPastEnd);

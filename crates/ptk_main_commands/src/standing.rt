@@ -2,6 +2,7 @@
 
 ghost use Rattle.std.specs.Prelude.{◌≡◌, ◌≤◌, None, IfErr, MatchResult, OnOk};
 ghost use Rattle.ptk_words.specs.declared.TheConstants.{LAST_TICK};
+ghost use Rattle.ptk_main_faults.specs.HostFaults.{IsHostFault};
 ghost use Rattle.ptk_main_files.specs.Outcomes.{WithImages, partition_refusal};
 ghost use Rattle.ptk_main_files.specs.Parts.{part_named};
 ghost use Rattle.ptk_main_files.specs.Refusals.{IsFaultOf, refused_trace};
@@ -21,13 +22,13 @@ use ptk_words::Tick;
 use std::alloc::Global;
 use std::io::Write;
 
-/// How a partition of the configuration in a file stands.
-pub(crate) fn explain(rt: &HostRuntime, options: ExplainOptions<'_>) -> u8
+/// How a partition of the configuration in a file stands, on a writer.
+pub(crate) fn explain<W: Write>(rt: &HostRuntime, options: ExplainOptions<'_>, out: &mut W) -> u8
     requires { options.run.ticks ≤ LAST_TICK }
-    ensures { IsExplainEnd options.entry result }
+    ensures { IsExplainEnd options.entry (W.contents out.old) (W.contents out.new) result }
 {
     match config_in(rt, options.run.file) {
-        Ok(config) => end(rt, explain_config(rt, &config, options, &mut rt.stdout())),
+        Ok(config) => end(rt, explain_config(rt, &config, options, out)),
         Err(fault) => tell(rt, &fault),
     }
 }
@@ -42,6 +43,7 @@ fn explain_config<'a, W: Write>(
     requires { options.run.ticks ≤ LAST_TICK }
     ensures accepted { OnOk result (WithImages config.now.sections (IsExplanationOf options.entry config.now (W.contents out.old) (W.contents out.new))) }
     ensures refused { IfErr result (IsNamedRefusal options.entry.symbols config.now (partition_refusal options.entry.partition.now config.now)) }
+    ensures silent { IfErr result (λ fault. ¬ IsHostFault fault → out.new ≡ out.old) }
 {
     let files = images_of(rt, config, options.run.root)?;
     let text = symbols_text_in(rt, options.symbols)?;
@@ -74,6 +76,7 @@ fn standing_answer<'a, W: Write>(
     ensures refused { let refusal = refused_trace (part_named config.now name.now) config.now files.now name.now in
         MatchResult result (λ _. refusal ≡ None) (IsFaultOf refusal refusal) }
     ensures written { OnOk result (PutsStanding (standing_in format) symbols.now config.now files.now ticks name.now (W.contents out.old) (W.contents out.new)) }
+    ensures silent { IfErr result (λ fault. ¬ IsHostFault fault → out.new ≡ out.old) }
 {
     let form = standing_in(format);
     match explain_partition_with(alloc, config, files, ticks, name, symbols, form, out) {

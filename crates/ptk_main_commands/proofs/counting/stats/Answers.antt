@@ -1,18 +1,26 @@
-use Rattle.std.proofs.Common.{inl, inr}
-use Rattle.std.proofs.lemmas.Result.{on_ok_weaker}
-use Rattle.ptk_main_files.specs.Outcomes.{IsAccepted, IsRefused}
+use Rattle.std.proofs.Common.{ℕ, List, Option, ap, inl, inr}
+use Rattle.std.proofs.lemmas.Result.{IfErr-weaker}
+use Rattle.ptk_main_faults.specs.declared.fault.Fault.{Fault}
+use Rattle.ptk_main_files.specs.Outcomes.{IsRefused, IsSilent, WithImages}
 use Rattle.ptk_main_files.proofs.Outcomes.{ended}
+use Rattle.ptk_main_commands.specs.Answered.{IsStatsOf}
 use Rattle.ptk_main_commands.specs.Refusals.{stats_refusal}
+use Rattle.ptk_main_commands.proofs.Answered.{silently}
 use Rattle.ptk_main_commands.proofs.counting.stats.Goals as goal
 
 pub returns-in-Ok : goal.returns-in-Ok
-returns-in-Ok c =
-    let refusal = stats_refusal c.args.options.partition c.in-Ok.config in
+returns-in-Ok g c =
+    let old : Option (List ℕ) = g.W.Write.contents c.args.out.now in
+    let new : Option (List ℕ) = g.W.Write.contents c.stats_config.new.out in
+    let refused : Fault → Type 0 = IsRefused c.in-Ok.config.sections (stats_refusal c.args.options.partition c.in-Ok.config) (stats_refusal c.args.options.partition c.in-Ok.config) in
     inr (
       c.in-Ok.config,
-      ended (IsAccepted c.in-Ok.config.sections refusal) (IsRefused c.in-Ok.config.sections refusal refusal) c.stats_config.result c.end.result
-          (on_ok_weaker c.stats_config.result (λ images. (images.0, images.1, images.2.accepted)) c.stats_config.ensures.accepted) c.stats_config.ensures.refused c.end.ensures.done c.end.ensures.failed,
+      c.in-Ok.ensures.stated,
+      ended (WithImages c.in-Ok.config.sections (IsStatsOf c.args.options c.in-Ok.config old new)) (λ fault. refused fault × IsSilent fault old new) c.stats_config.result c.end.result
+          c.stats_config.ensures.accepted
+          (silently refused c.stats_config.result old new c.stats_config.ensures.refused (IfErr-weaker c.stats_config.result _ _ (λ fault silent other. ap g.W.Write.contents (silent other)) c.stats_config.ensures.silent))
+          c.end.ensures.done c.end.ensures.failed,
     )
 
 pub returns-in-Err : goal.returns-in-Err
-returns-in-Err c = inl (c.in-Err.fault, c.in-Err.ensures, c.tell.ensures)
+returns-in-Err g c = inl (c.in-Err.fault, c.in-Err.ensures.unread, c.tell.ensures)

@@ -5,3 +5,6 @@ returns-in-Ok-clause-drawn g c = c.in-Ok.ensures.drawn
 
 pub returns-in-Ok-clause-dumped : goal.returns-in-Ok-clause-dumped
 returns-in-Ok-clause-dumped g c = c.in-Ok.ensures.dumped
+
+pub returns-in-Ok-clause-noted : goal.returns-in-Ok-clause-noted
+returns-in-Ok-clause-noted g c = c.in-Ok.ensures.noted

@@ -1,18 +1,26 @@
-use Rattle.std.proofs.Common.{inl, inr}
-use Rattle.std.proofs.lemmas.Result.{on_ok_weaker}
-use Rattle.ptk_main_files.specs.Outcomes.{IsAccepted, partition_refusal}
+use Rattle.std.proofs.Common.{ℕ, List, Option, ap, inl, inr}
+use Rattle.std.proofs.lemmas.Result.{IfErr-weaker}
+use Rattle.ptk_main_faults.specs.declared.fault.Fault.{Fault}
+use Rattle.ptk_main_files.specs.Outcomes.{IsSilent, WithImages, partition_refusal}
 use Rattle.ptk_main_files.proofs.Outcomes.{ended}
+use Rattle.ptk_main_commands.specs.Answered.{IsExplanationOf}
 use Rattle.ptk_main_commands.specs.Refusals.{IsNamedRefusal}
+use Rattle.ptk_main_commands.proofs.Answered.{silently}
 use Rattle.ptk_main_commands.proofs.standing.explain.Goals as goal
 
 pub returns-in-Ok : goal.returns-in-Ok
-returns-in-Ok c =
-    let refusal = partition_refusal c.args.options.partition.now c.in-Ok.config in
+returns-in-Ok g c =
+    let old : Option (List ℕ) = g.W.Write.contents c.args.out.now in
+    let new : Option (List ℕ) = g.W.Write.contents c.explain_config.new.out in
+    let refused : Fault → Type 0 = IsNamedRefusal c.args.options.symbols c.in-Ok.config (partition_refusal c.args.options.partition.now c.in-Ok.config) in
     inr (
       c.in-Ok.config,
-      ended (IsAccepted c.in-Ok.config.sections refusal) (IsNamedRefusal c.args.options.symbols c.in-Ok.config refusal) c.explain_config.result c.end.result
-          (on_ok_weaker c.explain_config.result (λ images. (images.0, images.1, images.2.accepted)) c.explain_config.ensures.accepted) c.explain_config.ensures.refused c.end.ensures.done c.end.ensures.failed,
+      c.in-Ok.ensures.stated,
+      ended (WithImages c.in-Ok.config.sections (IsExplanationOf c.args.options c.in-Ok.config old new)) (λ fault. refused fault × IsSilent fault old new) c.explain_config.result c.end.result
+          c.explain_config.ensures.accepted
+          (silently refused c.explain_config.result old new c.explain_config.ensures.refused (IfErr-weaker c.explain_config.result _ _ (λ fault silent other. ap g.W.Write.contents (silent other)) c.explain_config.ensures.silent))
+          c.end.ensures.done c.end.ensures.failed,
     )
 
 pub returns-in-Err : goal.returns-in-Err
-returns-in-Err c = inl (c.in-Err.fault, c.in-Err.ensures, c.tell.ensures)
+returns-in-Err g c = inl (c.in-Err.fault, c.in-Err.ensures.unread, c.tell.ensures)
