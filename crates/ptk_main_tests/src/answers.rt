@@ -8,8 +8,8 @@ use ptk_main_commands::answers::{
 };
 use ptk_main_commands::timeline_answer;
 use ptk_main_faults::{FailureKind, Fault};
+use ptk_main_guests::guest_of;
 use ptk_main_guests::sources::HELLO;
-use ptk_main_guests::{files_with, image_of};
 use ptk_main_line::{FailOn, Format, PictureFormat};
 use ptk_symbols::{Symbols, read_symbols};
 use ptk_words::Tick;
@@ -70,15 +70,29 @@ fn run<'a, W: Write>(
     outcome
 }
 
-// What a trace of p at a tick returns.
-fn trace<'a, W: Write>(
+// Whether a run is done, and this is its report.
+fn is_run(
     alloc: Global,
-    config: &'a Config,
+    config: &Config,
     files: &Files,
-    tick: u16,
-    out: &mut W,
-) -> Result<(), Fault<'a>> {
-    trace_answer(alloc, config, files, Tick::new(u64::from(tick)), "p", out)
+    question: &RunQuestion<'_>,
+    want: &str,
+) -> bool {
+    let mut out = Vec::new(alloc);
+    run(alloc, config, files, question, &mut out).is_ok() && is_text(&out, want)
+}
+
+// Whether this is the trace of p at a tick.
+fn is_traced(alloc: Global, config: &Config, files: &Files, tick: u16, want: &str) -> bool {
+    let mut out = Vec::new(alloc);
+    let tick = Tick::new(u64::from(tick));
+    trace_answer(alloc, config, files, tick, "p", &mut out).is_ok() && is_text(&out, want)
+}
+
+// Whether a check says that all is in order.
+fn is_sound(alloc: Global, config: &Config, files: &Files) -> bool {
+    let mut out = Vec::new(alloc);
+    check_with(alloc, config, files, &mut out).is_ok() && is_text(&out, "ok\n")
 }
 
 // What a check returns with a writer of this much room, of at most 3 bytes.
@@ -150,22 +164,8 @@ fn check_names(rt: &impl Abort, alloc: Global, config: &Config, files: &Files) {
     assert!(rt; is_with(&plain, &out, NAME));
 }
 
-// Asserts what each request writes.
-fn check_answers(rt: &impl Abort, alloc: Global, config: &Config, files: &Files) {
-    let mut out = Vec::new(alloc);
-    assert!(rt; run(alloc, config, files, &run_to(20), &mut out) == Ok(()));
-    assert!(rt; is_text(&out, HELLO_REPORT));
-    let mut out = Vec::new(alloc);
-    // Row cut-run.
-    assert!(rt; run(alloc, config, files, &run_to(3), &mut out) == Ok(()));
-    assert!(rt; is_text(&out, CUT_REPORT));
-    let mut out = Vec::new(alloc);
-    // Row short-trace.
-    assert!(rt; trace(alloc, config, files, 20, &mut out) == Ok(()));
-    assert!(rt; is_text(&out, SHORT_TRACE));
-    let mut out = Vec::new(alloc);
-    assert!(rt; check_with(alloc, config, files, &mut out) == Ok(()));
-    assert!(rt; is_text(&out, "ok\n"));
+// Asserts what a picture is without names, with a writer that has too little room, and of no tick.
+fn check_pictures(rt: &impl Abort, alloc: Global, config: &Config, files: &Files) {
     let nameless = Symbols::new(alloc);
     let mut out = Vec::new(alloc);
     assert!(rt; picture(alloc, config, files, &nameless, 0, &mut out) == Ok(()));
@@ -175,6 +175,16 @@ fn check_answers(rt: &impl Abort, alloc: Global, config: &Config, files: &Files)
     assert!(rt; picture(alloc, config, files, &nameless, 0, &mut room) == Err(Fault::WriteFailed));
     let late = picture(alloc, config, files, &nameless, 20, &mut room);
     assert!(rt; late == Err(Fault::NothingFrom(20)));
+}
+
+// Asserts what each request writes.
+fn check_answers(rt: &impl Abort, alloc: Global, config: &Config, files: &Files) {
+    assert!(rt; is_run(alloc, config, files, &run_to(20), HELLO_REPORT));
+    // Row cut-run.
+    assert!(rt; is_run(alloc, config, files, &run_to(3), CUT_REPORT));
+    // Row short-trace.
+    assert!(rt; is_traced(alloc, config, files, 20, SHORT_TRACE));
+    assert!(rt; is_sound(alloc, config, files));
     for most in 0..3 {
         assert!(rt;
             check_into(alloc, config, files, most) == Err(Fault::WriteFailed),
@@ -194,58 +204,50 @@ const HALTED_JSON: &str =
 const REFUSED_JSON: &str =
     "{\"format\":\"ptk check 1\",\"answer\":\"refused\",\"fault\":\"ptk: config fault 2\",\"explanation\":\"key frame: missing\\n\"}\n";
 
+// Whether a run is not as expected from its byte 44 on, where `i` is in place of `o`, and has its report all the same.
+fn is_other(alloc: Global, config: &Config, files: &Files, question: &RunQuestion<'_>) -> bool {
+    let mut out = Vec::new(alloc);
+    let differs = Fault::Differs(44, 3, Some(105), Some(111));
+    run(alloc, config, files, question, &mut out) == Err(differs) && is_text(&out, HELLO_REPORT)
+}
+
 // Asserts what a run is that has a form, is expected to be something, or ends early.
 fn check_expectations(rt: &impl Abort, alloc: Global, config: &Config, files: &Files) {
     let json = RunQuestion {
         format: Format::Json,
         ..run_to(20)
     };
-    let mut out = Vec::new(alloc);
-    assert!(rt; run(alloc, config, files, &json, &mut out) == Ok(()));
-    assert!(rt; is_text(&out, HELLO_JSON));
+    assert!(rt; is_run(alloc, config, files, &json, HELLO_JSON));
     let halted = RunQuestion {
         until_halted: true,
         ticks: Tick::new(5000),
         ..json
     };
-    let mut out = Vec::new(alloc);
-    assert!(rt; run(alloc, config, files, &halted, &mut out) == Ok(()));
-    assert!(rt; is_text(&out, HALTED_JSON));
+    assert!(rt; is_run(alloc, config, files, &halted, HALTED_JSON));
     let same = RunQuestion {
         expected: Some(HELLO_REPORT.as_bytes()),
         until_halted: true,
         ..run_to(1000)
     };
-    let mut out = Vec::new(alloc);
-    assert!(rt; run(alloc, config, files, &same, &mut out) == Ok(()));
-    assert!(rt; is_text(&out, HELLO_REPORT));
+    assert!(rt; is_run(alloc, config, files, &same, HELLO_REPORT));
     let other = RunQuestion {
         expected: Some(OTHER_REPORT.as_bytes()),
         ..run_to(20)
     };
-    let mut out = Vec::new(alloc);
-    assert!(rt;
-        run(alloc, config, files, &other, &mut out)
-            == Err(Fault::Differs(44, 3, Some(105), Some(111)))
-    );
-    assert!(rt; is_text(&out, HELLO_REPORT));
-}
-
-// The file of row hello's image, None where memory ran out.
-fn hello(alloc: Global) -> Option<Files> {
-    files_with(alloc, &image_of(alloc, &[HELLO])?, &[]).ok()
+    assert!(rt; is_other(alloc, config, files, &other));
 }
 
 #[test]
 fn each_request_has_its_answer(rt: HostRuntime) {
     let alloc = rt.alloc();
-    match (read_config(alloc, HELLO_TEXT).ok(), hello(alloc)) {
-        (Some(config), Some(files)) => {
+    match guest_of(alloc, &[HELLO_TEXT], &[HELLO]) {
+        Some((config, files)) => {
             check_answers(&rt, alloc, &config, &files);
+            check_pictures(&rt, alloc, &config, &files);
             check_names(&rt, alloc, &config, &files);
             check_expectations(&rt, alloc, &config, &files);
         }
-        _ => assert!(rt; false, "no memory"),
+        None => assert!(rt; false, "no memory"),
     }
 }
 
@@ -260,7 +262,7 @@ fn check_words(
 ) {
     let mut out = Vec::new(alloc);
     match explain_with(alloc, text, files, &mut out) {
-        Ok(found) => assert_eq!(rt; found.is_some(), is_refused),
+        Ok(found) => assert!(rt; found.is_some() == is_refused),
         Err(_) => assert!(rt; false, "no memory"),
     }
     assert!(rt; is_text(&out, want));
@@ -272,8 +274,8 @@ fn check_words(
 #[test]
 fn a_text_is_explained(rt: HostRuntime) {
     let alloc = rt.alloc();
-    match hello(alloc) {
-        Some(files) => {
+    match guest_of(alloc, &[HELLO_TEXT], &[HELLO]) {
+        Some((_config, files)) => {
             check_words(&rt, alloc, HELLO_TEXT, &files, false, HELLO_WORDS);
             let line = "key partition: missing\n";
             check_words(&rt, alloc, "frame = 20\n", &files, true, line);

@@ -3,6 +3,7 @@
 //! table of lines and statuses. Each test that has files is a process of its own, and works in a folder of its own,
 //! which it removes. A helper that promises nothing is between the rows and the calls that it tests.
 
+use crate::parts::{FIRST, FRAME, NUMBERS, SECOND};
 use ptk_asm::assemble;
 use ptk_asm_language::Section;
 use ptk_main_commands::{
@@ -10,12 +11,12 @@ use ptk_main_commands::{
     unread, usage,
 };
 use ptk_main_faults::Fault;
+use ptk_main_guests::P;
 use ptk_main_line::{CheckOptions, DisasmOptions, Format};
 use std::alloc::AllocError;
 use std::{env, fs, io};
 
-const P: &str = "[[partition]]\nname = \"p\"\nimage = \"p.img\"\n";
-
+/// The section of q, with an image of its own.
 const Q: &str = "[[partition]]\nname = \"q\"\nimage = \"q.img\"\n";
 
 /// A section whose image is a folder.
@@ -28,13 +29,6 @@ const MISSING_Q: &str = "[[partition]]\nname = \"q\"\nimage = \"none.img\"\n";
 
 const BAD_Q: &str = "[[partition]]\nname = \"q\"\nimage = \"short.img\"\n";
 
-const NUMBERS: &str =
-    "memory = 4096\nthreads = 4\nstack = 256\nmutexes = 4\nconds = 4\nkeys = 4\ninterval = 100\nring = 16\noutput = 64\ntrace = 16\n";
-
-const FIRST_20: &str = "[[window]]\nstart = 0\nlength = 20\npartition = \"p\"\n";
-
-const SECOND_20: &str = "[[window]]\nstart = 20\nlength = 20\npartition = \"q\"\n";
-
 // Puts `h` and `i` and exits with 0, as a source and as the bytes that `asm` is to make of it.
 const HELLO_SOURCE: &str =
     "li a7, 1\nli a0, 104\necall\nli a7, 1\nli a0, 105\necall\nli a7, 0\nli a0, 0\necall\n";
@@ -42,51 +36,26 @@ const HELLO_SOURCE: &str =
 const HELLO_IMAGE: &[u8] =
     b"PTKI\x01\0\0\0\0\0\0\0\x24\0\0\0\0\0\0\0\0\0\0\0\x93\x08\x10\x00\x13\x05\x80\x06\x73\0\0\0\x93\x08\x10\x00\x13\x05\x90\x06\x73\0\0\0\x93\x08\0\0\x13\x05\0\0\x73\0\0\0";
 
+/// The first lines of its report.
+const REPORT_HEAD: &str = "partition p exit 0 steps 9 lost 0\noutput 2\n";
+
 /// The texts that there are before the first command: the name of the file, and its parts.
 const TEXTS: [(&str, &[&str]); 14] = [
-    ("alone.toml", &["frame = 20\n", P, NUMBERS, FIRST_20]),
-    (
-        "two.toml",
-        &["frame = 40\n", P, NUMBERS, Q, NUMBERS, FIRST_20, SECOND_20],
-    ),
-    ("folder.toml", &["frame = 20\n", FOLDER, NUMBERS, FIRST_20]),
-    (
-        "missing.toml",
-        &["frame = 20\n", MISSING, NUMBERS, FIRST_20],
-    ),
+    ("alone.toml", &["frame = 20\n", P, NUMBERS, FIRST]),
+    ("two.toml", &[FRAME, P, NUMBERS, Q, NUMBERS, FIRST, SECOND]),
+    ("folder.toml", &["frame = 20\n", FOLDER, NUMBERS, FIRST]),
+    ("missing.toml", &["frame = 20\n", MISSING, NUMBERS, FIRST]),
     (
         "second.toml",
-        &[
-            "frame = 40\n",
-            P,
-            NUMBERS,
-            MISSING_Q,
-            NUMBERS,
-            FIRST_20,
-            SECOND_20,
-        ],
+        &[FRAME, P, NUMBERS, MISSING_Q, NUMBERS, FIRST, SECOND],
     ),
     (
         "bad.toml",
-        &[
-            "frame = 40\n",
-            P,
-            NUMBERS,
-            BAD_Q,
-            NUMBERS,
-            FIRST_20,
-            SECOND_20,
-        ],
+        &[FRAME, P, NUMBERS, BAD_Q, NUMBERS, FIRST, SECOND],
     ),
     ("empty.toml", &[]),
-    (
-        "right",
-        &["partition p exit 0 steps 9 lost 0\noutput 2\nhi\n"],
-    ),
-    (
-        "wrong",
-        &["partition p exit 0 steps 9 lost 0\noutput 2\nh\n"],
-    ),
+    ("right", &[REPORT_HEAD, "hi\n"]),
+    ("wrong", &[REPORT_HEAD, "h\n"]),
     ("hello.s", &[HELLO_SOURCE]),
     ("named.s", &["_start:\n", HELLO_SOURCE, "end:\nnop\n"]),
     // Row operand-out-of-range.
@@ -261,20 +230,20 @@ const WRITTEN: [(&str, &[u8]); 4] = [
 const UNWRITTEN: [&str; 3] = ["none.img", "none.sym", "none.s"];
 
 /// Files that can't be read, with their faults.
-const READS: [(&str, Fault<'static>); 3] = [
+static READS: [(&str, Fault<'static>); 3] = [
     ("none.toml", Fault::MissingFile("none.toml")),
     ("right/x", Fault::MissingFile("right/x")),
     (".", Fault::ReadFailed(".")),
 ];
 
 /// Files that have no configuration, with their faults.
-const CONFIGS: [(&str, Fault<'static>); 2] = [
+static CONFIGS: [(&str, Fault<'static>); 2] = [
     ("bytes.toml", Fault::NotText("bytes.toml")),
     ("empty.toml", Fault::Config(2)),
 ];
 
 /// Configurations with what `check` says of them, whether it explains or not.
-const CHECKS: [(&str, Option<Fault<'static>>); 5] = [
+static CHECKS: [(&str, Option<Fault<'static>>); 5] = [
     ("alone.toml", None),
     ("folder.toml", Some(Fault::ReadFailed("folder.img"))),
     ("missing.toml", Some(Fault::MissingFile("none.img"))),
@@ -283,7 +252,7 @@ const CHECKS: [(&str, Option<Fault<'static>>); 5] = [
 ];
 
 /// Images of which no source is made, with the symbols that are asked for.
-const DISASMS: [(&str, Option<&str>, Fault<'static>); 3] = [
+static DISASMS: [(&str, Option<&str>, Fault<'static>); 3] = [
     ("short.img", None, Fault::Image("short.img", 1)),
     ("long.img", None, Fault::TooLong("long.img", Section::Bss)),
     ("p.img", Some("bad.sym"), Fault::Symbols("bad.sym", 2)),
@@ -364,7 +333,7 @@ fn is_checked(rt: &HostRuntime, file: &str, explain: bool, want: &Option<Fault<'
     };
     match (text_in(rt, file), config_in(rt, file)) {
         (Ok(text), Ok(config)) => {
-            check_config(rt, text.as_str(), &config, options).err() == *want
+            check_config(rt, text.as_str(), &config, options, &mut rt.stdout()).err() == *want
         }
         _ => false,
     }
@@ -382,54 +351,86 @@ fn is_left<'a>(
         target: Some("none.s"),
         symbols,
     };
-    match disasm(rt, options) {
+    match disasm(rt, options, &mut rt.stdout()) {
         Ok(_) => false,
         Err(fault) => fault == *want,
+    }
+}
+
+// Asserts the status of each command, in their order.
+fn check_commands(rt: &HostRuntime) {
+    for (line, status) in COMMANDS.iter() {
+        assert!(rt; has_status(rt, line, *status), "{line}");
+    }
+}
+
+// Asserts the files that the commands wrote or left.
+fn check_written(rt: &HostRuntime) {
+    for (name, bytes) in WRITTEN.iter() {
+        assert!(rt; has_bytes(rt, name, bytes), "{name}");
+    }
+    assert!(rt; has_bytes(rt, "hello.s", HELLO_SOURCE.as_bytes()));
+}
+
+// Asserts that the files for which there was nothing to write are not there.
+fn check_unwritten(rt: &HostRuntime) {
+    for name in UNWRITTEN.iter() {
+        assert!(rt; is_unread(rt, name, &Fault::MissingFile(name)), "{name}");
     }
 }
 
 #[test]
 fn each_command_has_its_status(rt: HostRuntime) {
     assert!(rt; has_entered(&rt, "each-command-has-its-status"));
-    for (line, status) in COMMANDS.iter() {
-        assert!(rt; has_status(&rt, line, *status), "{line}");
-    }
-    for (name, bytes) in WRITTEN.iter() {
-        assert!(rt; has_bytes(&rt, name, bytes));
-    }
-    for name in UNWRITTEN.iter() {
-        assert!(rt; is_unread(&rt, name, &Fault::MissingFile(name)));
-    }
-    assert!(rt; has_bytes(&rt, "hello.s", HELLO_SOURCE.as_bytes()));
+    check_commands(&rt);
+    check_written(&rt);
+    check_unwritten(&rt);
     assert!(rt; has_left(&rt, "each-command-has-its-status"));
+}
+
+// Asserts the faults of the files that can't be read.
+fn check_unread(rt: &HostRuntime) {
+    for (name, fault) in READS.iter() {
+        assert!(rt; is_unread(rt, name, fault), "{name}");
+    }
+}
+
+// Asserts the faults of the files that have no configuration.
+fn check_unconfigured(rt: &HostRuntime) {
+    for (name, fault) in CONFIGS.iter() {
+        assert!(rt; is_unconfigured(rt, name, fault), "{name}");
+    }
+}
+
+// Asserts what `check` says of each configuration, where it explains, or where it does not.
+fn check_checked(rt: &HostRuntime, explain: bool) {
+    for (file, fault) in CHECKS.iter() {
+        assert!(rt; is_checked(rt, file, explain, fault), "{file}");
+    }
+}
+
+// Asserts of which images no source is made.
+fn check_left(rt: &HostRuntime) {
+    for (image, symbols, fault) in DISASMS.iter() {
+        assert!(rt; is_left(rt, image, *symbols, fault), "{image}");
+    }
+}
+
+// Whether a fault of an empty text stays as it is where it is explained.
+fn is_kept(rt: &HostRuntime, fault: Fault<'static>) -> bool {
+    refusal_explained(rt.alloc(), "", fault, &mut rt.stdout()) == fault
 }
 
 #[test]
 fn each_fault_is_told(rt: HostRuntime) {
     assert!(rt; has_entered(&rt, "each-fault-is-told"));
-    assert!(rt;
-        READS
-            .iter()
-            .all(|(name, fault)| is_unread(&rt, name, fault))
-    );
-    assert!(rt;
-        CONFIGS
-            .iter()
-            .all(|(name, fault)| is_unconfigured(&rt, name, fault))
-    );
-    for explain in [false, true] {
-        assert!(rt;
-            CHECKS
-                .iter()
-                .all(|(file, fault)| is_checked(&rt, file, explain, fault))
-        );
-    }
-    for (image, symbols, fault) in DISASMS.iter() {
-        assert!(rt; is_left(&rt, image, *symbols, fault));
-    }
-    for fault in [Fault::Config(2), Fault::NoMemory] {
-        assert!(rt; refusal_explained(&rt, "", fault) == fault);
-    }
+    check_unread(&rt);
+    check_unconfigured(&rt);
+    check_checked(&rt, false);
+    check_checked(&rt, true);
+    check_left(&rt);
+    assert!(rt; is_kept(&rt, Fault::Config(2)));
+    assert!(rt; is_kept(&rt, Fault::NoMemory));
     assert!(rt; has_left(&rt, "each-fault-is-told"));
 }
 

@@ -1,16 +1,15 @@
 //! The lines of a decoded trace: of row hello with symbols, and of a guest whose calls reply errors and block, its
 //! calls alone. What is wanted was worked out by hand.
 
+use crate::parts::{FIRST, NUMBERS};
 use ptk_main_commands::answers::{Filter, decoded_trace_with};
 use ptk_main_guests::sources::HELLO;
-use ptk_main_guests::{Config, Files, guest_of};
+use ptk_main_guests::{Config, Files, P, guest_of};
 use ptk_symbols::{Symbols, read_symbols};
 use ptk_words::{ThreadNo, Tick};
 use std::alloc::Global;
-use std::test::Fail;
 
-const CONFIGURATION: &str =
-    "frame = 20\n[[partition]]\nname = \"p\"\nimage = \"p.img\"\nmemory = 4096\nthreads = 4\nstack = 256\nmutexes = 4\nconds = 4\nkeys = 4\ninterval = 100\nring = 16\noutput = 64\ntrace = 16\n[[window]]\nstart = 0\nlength = 20\npartition = \"p\"\n";
+const CONFIGURATION: [&str; 4] = ["frame = 20\n", P, NUMBERS, FIRST];
 
 const HELLO_SYMBOLS: &str = "00000000 T _start\n00000018 t end\n";
 
@@ -57,32 +56,28 @@ fn is_traced(
     is_written && out.as_slice() == want.as_bytes()
 }
 
-// Whether it has them with this guest.
-fn is_decoded(
-    alloc: Global,
-    source: &str,
-    symbols: &Symbols<'_>,
-    filter: &Filter,
-    want: &str,
-) -> bool {
-    match guest_of(alloc, &[CONFIGURATION], &[source]) {
-        Some((config, files)) => is_traced(alloc, &config, &files, symbols, filter, want),
-        None => false,
+// Whether it has them with this guest and these symbols.
+fn is_decoded(alloc: Global, source: &str, symbols: &str, filter: &Filter, want: &str) -> bool {
+    match (
+        guest_of(alloc, &CONFIGURATION, &[source]),
+        read_symbols(alloc, symbols),
+    ) {
+        (Some((config, files)), Ok(symbols)) => {
+            is_traced(alloc, &config, &files, &symbols, filter, want)
+        }
+        _ => false,
     }
 }
 
 #[test]
-fn each_step_has_its_words(rt: HostRuntime) -> Result<(), Fail> {
+fn each_step_has_its_words(rt: HostRuntime) {
     let alloc = rt.alloc();
-    let (all, symbols) = (Filter::all(), read_symbols(alloc, HELLO_SYMBOLS)?);
-    assert!(rt; is_decoded(alloc, HELLO, &symbols, &all, HELLO_LINES));
-    let none = Symbols::new(alloc);
+    assert!(rt; is_decoded(alloc, HELLO, HELLO_SYMBOLS, &Filter::all(), HELLO_LINES));
     let calls = Filter {
         thread: Some(ThreadNo::new(1)),
         is_calls_only: true,
         from: Tick::new(1),
         to: Tick::new(15),
     };
-    assert!(rt; is_decoded(alloc, REFUSED, &none, &calls, REFUSED_CALLS));
-    Ok(())
+    assert!(rt; is_decoded(alloc, REFUSED, "", &calls, REFUSED_CALLS));
 }

@@ -166,7 +166,7 @@ struct Case<'a> {
     json: &'a str,
 }
 
-const CASES: [Case<'static>; 4] = [
+static CASES: [Case<'static>; 4] = [
     Case {
         source: DEADLOCK,
         symbols: DEADLOCK_SYMBOLS,

@@ -1,24 +1,19 @@
 //! What is written of pairs of configurations. What is wanted was worked out by hand. A helper that promises nothing is
 //! between each row and the calls that it tests.
 
+use crate::parts::{FIRST, FRAME, NUMBERS, SECOND};
 use crate::statistics::EXIT;
 use ptk_main_commands::answers::{run_with, trace_with};
 use ptk_main_commands::impacts::{Question, Release, impact_json_with, impact_with};
 use ptk_main_faults::Fault;
-use ptk_main_guests::{Config, Files, config_of, image_of};
+use ptk_main_guests::{Config, Files, P, config_of, image_of};
 use ptk_main_line::Format;
 use ptk_words::Tick;
 use std::alloc::Global;
+use std::process::Abort;
 
-// The table of partition p or q, whose image has two steps.
-const P: &str = "[[partition]]\nname = \"p\"\nimage = \"p.img\"\n";
-
+// The table of partition q, whose image is that of p: two steps.
 const Q: &str = "[[partition]]\nname = \"q\"\nimage = \"p.img\"\n";
-
-const FRAME: &str = "frame = 40\n";
-
-const NUMBERS: &str =
-    "memory = 4096\nthreads = 4\nstack = 256\nmutexes = 4\nconds = 4\nkeys = 4\ninterval = 100\nring = 16\noutput = 64\ntrace = 16\n";
 
 // The same partitions with other images, with bytes that are none, and with no image.
 const OTHER_P: &str = "[[partition]]\nname = \"p\"\nimage = \"other.img\"\n";
@@ -29,14 +24,17 @@ const MISSING_P: &str = "[[partition]]\nname = \"p\"\nimage = \"none.img\"\n";
 
 const BARE_Q: &str = "[[partition]]\nname = \"q\"\n";
 
-// Halves of the frame of 40 ticks, and both in its later half or further on.
-const FIRST: &str = "[[window]]\nstart = 0\nlength = 20\npartition = \"p\"\n";
-
-const SECOND: &str = "[[window]]\nstart = 20\nlength = 20\npartition = \"q\"\n";
-
+// p's window in the later half of the frame, and in the whole frame.
 const P_SECOND: &str = "[[window]]\nstart = 20\nlength = 20\npartition = \"p\"\n";
 
-/// The same windows in the other half of a frame of 80 ticks.
+const WHOLE: &str = "[[window]]\nstart = 0\nlength = 40\npartition = \"p\"\n";
+
+// p and its window under another name.
+const PILOT_P: &str = "[[partition]]\nname = \"pilot\"\nimage = \"p.img\"\n";
+
+const PILOT_FIRST: &str = "[[window]]\nstart = 0\nlength = 20\npartition = \"pilot\"\n";
+
+/// The windows of both partitions in the other half of a frame of 80 ticks.
 const AGAIN: &str =
     "[[window]]\nstart = 40\nlength = 20\npartition = \"p\"\n[[window]]\nstart = 60\nlength = 20\npartition = \"q\"\n";
 
@@ -62,19 +60,14 @@ const OTHER: &str = "
     .word 0x01000073
 ";
 
-/// Two configurations, a question on the way from one to the other, and its answer.
+/// Two configurations, a question on the way from one to the other, whether the run is the same or why there is no
+/// answer, and what is written.
 struct Case<'a> {
     old: &'a [&'a str],
     new: &'a [&'a str],
     question: Question<'a>,
-    answer: Answer<'a>,
-}
-
-/// What is written, of the same run or of another one, or the fault for which nothing is.
-enum Answer<'a> {
-    SameRun(&'a str),
-    OtherRun(&'a str),
-    Refused(Fault<'a>),
+    outcome: Result<bool, Fault<'a>>,
+    written: &'a str,
 }
 
 /// The question for all partitions under their own names.
@@ -89,8 +82,18 @@ const PILOT: Question<'static> = Question {
     rename: Some("p=pilot"),
 };
 
-/// An input byte of p, and numbers with more memory and a key less.
+/// An input byte of p, the same byte a tick later, and another one behind it.
 const BYTE: &str = "input = [{ at = 5, bytes = [65] }]\n";
+
+const LATER_BYTE: &str = "input = [{ at = 6, bytes = [65] }]\n";
+
+const TWO_BYTES: &str = "input = [{ at = 5, bytes = [65, 66] }]\n";
+
+/// The numbers with a longer trace, and with more memory and a key less.
+const TRACE_64: &str = "trace = 64\n";
+
+const WITHOUT_TRACE: &str =
+    "memory = 4096\nthreads = 4\nstack = 256\nmutexes = 4\nconds = 4\nkeys = 4\ninterval = 100\nring = 16\noutput = 64\n";
 
 const CHANGED: &str =
     "memory = 8192\nthreads = 4\nstack = 256\nmutexes = 4\nconds = 4\nkeys = 3\ninterval = 100\nring = 16\noutput = 64\ntrace = 16\n";
@@ -112,8 +115,8 @@ fn are_added(alloc: Global, files: &mut Files) -> bool {
         && files.add("bad.img", b"no image").is_ok()
 }
 
-// Whether this is the answer to a case's question on the way from one release to another, in a format.
-fn is_answer(
+// Whether this comes of a case's question on the way from one release to another, in a format.
+fn is_outcome(
     alloc: Global,
     before: Release<'_, '_>,
     after: Release<'_, '_>,
@@ -125,69 +128,64 @@ fn is_answer(
         Format::Text => impact_with(alloc, before, after, case.question, &mut out),
         Format::Json => impact_json_with(alloc, before, after, case.question, &mut out),
     };
-    match (answer, &case.answer) {
-        (Ok(tally), Answer::SameRun(text)) => {
-            tally.is_same_run() && out.as_slice() == text.as_bytes()
+    match (answer, &case.outcome) {
+        (Ok(tally), Ok(is_same)) => {
+            tally.is_same_run() == *is_same && out.as_slice() == case.written.as_bytes()
         }
-        (Ok(tally), Answer::OtherRun(text)) => {
-            !tally.is_same_run() && out.as_slice() == text.as_bytes()
-        }
-        (Err(fault), Answer::Refused(wanted)) => fault == *wanted && out.is_empty(),
+        (Err(fault), Err(wanted)) => fault == *wanted && out.is_empty(),
         _ => false,
     }
 }
 
-// Whether this is the answer to the case, in a format.
+// The release of a configuration with these files.
+fn release<'a, 'f>(config: &'a Config, files: &'f Files) -> Release<'a, 'f> {
+    Release { config, files }
+}
+
+// Whether a case is answered as wanted, in a format.
 fn is_answered(alloc: Global, case: &Case<'_>, format: Format, files: &Files) -> bool {
     match (config_of(alloc, case.old), config_of(alloc, case.new)) {
         (Some(old), Some(new)) => {
-            let before = Release {
-                config: &old,
-                files,
-            };
-            let after = Release {
-                config: &new,
-                files,
-            };
-            is_answer(alloc, before, after, case, format)
+            let before = release(&old, files);
+            let after = release(&new, files);
+            is_outcome(alloc, before, after, case, format)
         }
         _ => false,
     }
 }
 
-/// A frame twice as long, with its windows twice.
-const TWICE_THE_FRAME: Case<'static> = Case {
-    old: &BOTH,
-    new: &["frame = 80\n", P, NUMBERS, Q, NUMBERS, FIRST, SECOND, AGAIN],
-    question: ALL,
-    answer: Answer::SameRun(
-        "p: unchanged\nq: unchanged\n2 unchanged, 0 unchanged but for the trace kept, 0 changed, 0 new, 0 gone\n",
-    ),
-};
-
-/// A stage that repeats the table before it, in another order.
-const REPEATED_STAGE: Case<'static> = Case {
-    old: &BOTH,
-    new: &[FRAME, P, NUMBERS, Q, NUMBERS, FIRST, SECOND, REORDERED],
-    question: ALL,
-    answer: Answer::SameRun(
-        "p: unchanged\nq: unchanged\n2 unchanged, 0 unchanged but for the trace kept, 0 changed, 0 new, 0 gone\n",
-    ),
-};
+/// The same tables written otherwise.
+static WRITTEN_OTHERWISE: [Case<'static>; 2] = [
+    // a frame twice as long, with its windows twice
+    Case {
+        old: &BOTH,
+        new: &["frame = 80\n", P, NUMBERS, Q, NUMBERS, FIRST, SECOND, AGAIN],
+        question: ALL,
+        outcome: Ok(true),
+        written: "p: unchanged\nq: unchanged\n2 unchanged, 0 unchanged but for the trace kept, 0 changed, 0 new, 0 gone\n",
+    },
+    // a stage that repeats the table before it, in another order
+    Case {
+        old: &BOTH,
+        new: &[FRAME, P, NUMBERS, Q, NUMBERS, FIRST, SECOND, REORDERED],
+        question: ALL,
+        outcome: Ok(true),
+        written: "p: unchanged\nq: unchanged\n2 unchanged, 0 unchanged but for the trace kept, 0 changed, 0 new, 0 gone\n",
+    },
+];
 
 /// The windows swapped from frame 2 on, which begins at tick 80.
-const SWAPPED_WINDOWS: Case<'static> = Case {
+static SWAPPED_WINDOWS: Case<'static> = Case {
     old: &BOTH,
     new: &[FRAME, P, NUMBERS, Q, NUMBERS, FIRST, SECOND, SWAPPED],
     question: ALL,
-    answer: Answer::OtherRun(
-        "p: changed\n  windows: tick 80: its own until 100 -> not its own\nq: changed\n  windows: tick 80: not its own -> its own until 100\n0 unchanged, 0 unchanged but for the trace kept, 2 changed, 0 new, 0 gone\n",
-    ),
+    outcome: Ok(false),
+    written: "p: changed\n  windows: tick 80: its own until 100 -> not its own\nq: changed\n  windows: tick 80: not its own -> its own until 100\n0 unchanged, 0 unchanged but for the trace kept, 2 changed, 0 new, 0 gone\n",
 };
 
 /// A pair in which the answers and the differences are of each kind, with its answer as JSON. Windows: old p 0..20, q
 /// 20..40, s 40..56, t 56..72; new pilot 0..16, q 20..40, r 40..56, t 56..72.
-const EACH_KIND: Case<'static> = Case {
+static EACH_KIND: Case<'static> = Case {
     old: &[
         "frame = 80\n",
         P,
@@ -210,7 +208,7 @@ const EACH_KIND: Case<'static> = Case {
         NUMBERS,
         "[[partition]]\nname = \"pilot\"\nimage = 'a\".img'\n",
         CHANGED,
-        "input = [{ at = 5, bytes = [65, 66] }]\n",
+        TWO_BYTES,
         "[[partition]]\nname = \"q\"\nimage = \"bad.img\"\n",
         NUMBERS,
         "[[partition]]\nname = \"t\"\n",
@@ -221,52 +219,35 @@ const EACH_KIND: Case<'static> = Case {
         "[[window]]\nstart = 56\nlength = 16\npartition = \"t\"\n",
     ],
     question: PILOT,
-    answer: Answer::OtherRun(
-        "{\"format\":\"ptk impact 1\",\"partitions\":[{\"name\":\"r\",\"answer\":\"new\"},{\"name\":\"pilot\",\"answer\":\"changed\",\"old_name\":\"p\",\"place\":{\"old\":0,\"new\":1},\"file\":{\"old\":\"p.img\",\"new\":\"a\\\".img\"},\"differences\":{\"windows\":{\"tick\":0,\"old_end\":20,\"new_end\":16},\"limits\":{\"memory\":{\"old\":4096,\"new\":8192},\"keys\":{\"old\":4,\"new\":3}},\"image\":{\"offset\":31},\"input\":{\"index\":1,\"old\":null,\"new\":{\"tick\":5,\"byte\":66}}}},{\"name\":\"q\",\"answer\":\"changed\",\"place\":{\"old\":1,\"new\":2},\"file\":{\"old\":\"p.img\",\"new\":\"bad.img\"},\"differences\":{\"image\":{\"offset\":0,\"fault\":{\"old\":null,\"new\":1}}}},{\"name\":\"t\",\"answer\":\"unchanged but for the trace kept\",\"differences\":{\"limits\":{\"trace\":{\"old\":16,\"new\":64}}}},{\"name\":\"s\",\"answer\":\"gone\"}],\"unchanged\":0,\"unchanged_but_for_trace\":1,\"changed\":2,\"new\":1,\"gone\":1}\n",
-    ),
+    outcome: Ok(false),
+    written: "{\"format\":\"ptk impact 1\",\"partitions\":[{\"name\":\"r\",\"answer\":\"new\"},{\"name\":\"pilot\",\"answer\":\"changed\",\"old_name\":\"p\",\"place\":{\"old\":0,\"new\":1},\"file\":{\"old\":\"p.img\",\"new\":\"a\\\".img\"},\"differences\":{\"windows\":{\"tick\":0,\"old_end\":20,\"new_end\":16},\"limits\":{\"memory\":{\"old\":4096,\"new\":8192},\"keys\":{\"old\":4,\"new\":3}},\"image\":{\"offset\":31},\"input\":{\"index\":1,\"old\":null,\"new\":{\"tick\":5,\"byte\":66}}}},{\"name\":\"q\",\"answer\":\"changed\",\"place\":{\"old\":1,\"new\":2},\"file\":{\"old\":\"p.img\",\"new\":\"bad.img\"},\"differences\":{\"image\":{\"offset\":0,\"fault\":{\"old\":null,\"new\":1}}}},{\"name\":\"t\",\"answer\":\"unchanged but for the trace kept\",\"differences\":{\"limits\":{\"trace\":{\"old\":16,\"new\":64}}}},{\"name\":\"s\",\"answer\":\"gone\"}],\"unchanged\":0,\"unchanged_but_for_trace\":1,\"changed\":2,\"new\":1,\"gone\":1}\n",
 };
 
-/// Questions with their answers in words: the same run, another one, and what is refused.
-const CASES: [Case<'static>; 20] = [
-    TWICE_THE_FRAME,
-    REPEATED_STAGE,
+/// Other questions with their answers in words: the same run, another one, and what is refused.
+static CASES: [Case<'static>; 17] = [
     // the sections in another order
     Case {
         old: &BOTH,
         new: &[FRAME, Q, NUMBERS, P, NUMBERS, FIRST, SECOND],
         question: ALL,
-        answer: Answer::SameRun(
-            "q: unchanged\n  place: 1 -> 0 (no change of behaviour)\np: unchanged\n  place: 0 -> 1 (no change of behaviour)\n2 unchanged, 0 unchanged but for the trace kept, 0 changed, 0 new, 0 gone\n",
-        ),
+        outcome: Ok(true),
+        written: "q: unchanged\n  place: 1 -> 0 (no change of behaviour)\np: unchanged\n  place: 0 -> 1 (no change of behaviour)\n2 unchanged, 0 unchanged but for the trace kept, 0 changed, 0 new, 0 gone\n",
     },
     // a longer trace
     Case {
         old: &ALONE,
-        new: &[
-            FRAME,
-            P,
-            "trace = 64\n",
-            "memory = 4096\nthreads = 4\nstack = 256\nmutexes = 4\nconds = 4\nkeys = 4\ninterval = 100\nring = 16\noutput = 64\n",
-            FIRST,
-        ],
+        new: &[FRAME, P, TRACE_64, WITHOUT_TRACE, FIRST],
         question: ALL,
-        answer: Answer::SameRun(
-            "p: unchanged but for the trace kept\n  trace: 16 -> 64\n0 unchanged, 1 unchanged but for the trace kept, 0 changed, 0 new, 0 gone\n",
-        ),
+        outcome: Ok(true),
+        written: "p: unchanged but for the trace kept\n  trace: 16 -> 64\n0 unchanged, 1 unchanged but for the trace kept, 0 changed, 0 new, 0 gone\n",
     },
     // another name
     Case {
         old: &ALONE,
-        new: &[
-            FRAME,
-            "[[partition]]\nname = \"pilot\"\nimage = \"p.img\"\n",
-            NUMBERS,
-            "[[window]]\nstart = 0\nlength = 20\npartition = \"pilot\"\n",
-        ],
+        new: &[FRAME, PILOT_P, NUMBERS, PILOT_FIRST],
         question: PILOT,
-        answer: Answer::SameRun(
-            "pilot: unchanged\n  name: p -> pilot (no change of behaviour)\n1 unchanged, 0 unchanged but for the trace kept, 0 changed, 0 new, 0 gone\n",
-        ),
+        outcome: Ok(true),
+        written: "pilot: unchanged\n  name: p -> pilot (no change of behaviour)\n1 unchanged, 0 unchanged but for the trace kept, 0 changed, 0 new, 0 gone\n",
     },
     // one partition alone, whose neighbour is removed
     Case {
@@ -276,115 +257,88 @@ const CASES: [Case<'static>; 20] = [
             partition: Some("p"),
             rename: None,
         },
-        answer: Answer::SameRun(
-            "p: unchanged\n1 unchanged, 0 unchanged but for the trace kept, 0 changed, 0 new, 0 gone\n",
-        ),
+        outcome: Ok(true),
+        written: "p: unchanged\n1 unchanged, 0 unchanged but for the trace kept, 0 changed, 0 new, 0 gone\n",
     },
-    SWAPPED_WINDOWS,
     // p's window moved to the second half from frame 1 on
     Case {
         old: &BOTH,
         new: &[FRAME, P, NUMBERS, Q, NUMBERS, FIRST, SECOND, MOVED],
         question: ALL,
-        answer: Answer::OtherRun(
-            "p: changed\n  windows: tick 40: its own until 60 -> not its own\nq: changed\n  windows: tick 60: its own until 80 -> not its own\n0 unchanged, 0 unchanged but for the trace kept, 2 changed, 0 new, 0 gone\n",
-        ),
+        outcome: Ok(false),
+        written: "p: changed\n  windows: tick 40: its own until 60 -> not its own\nq: changed\n  windows: tick 60: its own until 80 -> not its own\n0 unchanged, 0 unchanged but for the trace kept, 2 changed, 0 new, 0 gone\n",
     },
     // adjacent windows joined: the same ticks, other ends
     Case {
         old: &[FRAME, P, NUMBERS, FIRST, P_SECOND],
-        new: &[
-            FRAME,
-            P,
-            NUMBERS,
-            "[[window]]\nstart = 0\nlength = 40\npartition = \"p\"\n",
-        ],
+        new: &[FRAME, P, NUMBERS, WHOLE],
         question: ALL,
-        answer: Answer::OtherRun(
-            "p: changed\n  windows: tick 0: its own until 20 -> its own until 40\n0 unchanged, 0 unchanged but for the trace kept, 1 changed, 0 new, 0 gone\n",
-        ),
+        outcome: Ok(false),
+        written: "p: changed\n  windows: tick 0: its own until 20 -> its own until 40\n0 unchanged, 0 unchanged but for the trace kept, 1 changed, 0 new, 0 gone\n",
     },
     // one bit of an image, the lowest of its last byte
     Case {
         old: &ALONE,
         new: &[FRAME, OTHER_P, NUMBERS, FIRST],
         question: ALL,
-        answer: Answer::OtherRun(
-            "p: changed\n  image: other bytes from offset 31\n  file: p.img -> other.img (no change of behaviour)\n0 unchanged, 0 unchanged but for the trace kept, 1 changed, 0 new, 0 gone\n",
-        ),
+        outcome: Ok(false),
+        written: "p: changed\n  image: other bytes from offset 31\n  file: p.img -> other.img (no change of behaviour)\n0 unchanged, 0 unchanged but for the trace kept, 1 changed, 0 new, 0 gone\n",
     },
     // an image that is none
     Case {
         old: &ALONE,
         new: &[FRAME, BAD_P, NUMBERS, FIRST],
         question: ALL,
-        answer: Answer::OtherRun(
-            "p: changed\n  image: other bytes from offset 0\n  image: not refused -> refused, fault 1\n  file: p.img -> bad.img (no change of behaviour)\n0 unchanged, 0 unchanged but for the trace kept, 1 changed, 0 new, 0 gone\n",
-        ),
+        outcome: Ok(false),
+        written: "p: changed\n  image: other bytes from offset 0\n  image: not refused -> refused, fault 1\n  file: p.img -> bad.img (no change of behaviour)\n0 unchanged, 0 unchanged but for the trace kept, 1 changed, 0 new, 0 gone\n",
     },
     // an input byte one tick later
     Case {
         old: &[FRAME, P, NUMBERS, BYTE, FIRST],
-        new: &[
-            FRAME,
-            P,
-            NUMBERS,
-            "input = [{ at = 6, bytes = [65] }]\n",
-            FIRST,
-        ],
+        new: &[FRAME, P, NUMBERS, LATER_BYTE, FIRST],
         question: ALL,
-        answer: Answer::OtherRun(
-            "p: changed\n  input: arrival 0: byte 65 at tick 5 -> byte 65 at tick 6\n0 unchanged, 0 unchanged but for the trace kept, 1 changed, 0 new, 0 gone\n",
-        ),
+        outcome: Ok(false),
+        written: "p: changed\n  input: arrival 0: byte 65 at tick 5 -> byte 65 at tick 6\n0 unchanged, 0 unchanged but for the trace kept, 1 changed, 0 new, 0 gone\n",
     },
     // an input byte more, and less room
     Case {
         old: &[FRAME, P, NUMBERS, BYTE, FIRST],
-        new: &[
-            FRAME,
-            P,
-            CHANGED,
-            "input = [{ at = 5, bytes = [65, 66] }]\n",
-            FIRST,
-        ],
+        new: &[FRAME, P, CHANGED, TWO_BYTES, FIRST],
         question: ALL,
-        answer: Answer::OtherRun(
-            "p: changed\n  memory: 4096 -> 8192\n  keys: 4 -> 3\n  input: arrival 1: none -> byte 66 at tick 5\n0 unchanged, 0 unchanged but for the trace kept, 1 changed, 0 new, 0 gone\n",
-        ),
+        outcome: Ok(false),
+        written: "p: changed\n  memory: 4096 -> 8192\n  keys: 4 -> 3\n  input: arrival 1: none -> byte 66 at tick 5\n0 unchanged, 0 unchanged but for the trace kept, 1 changed, 0 new, 0 gone\n",
     },
     // a neighbour removed
     Case {
         old: &BOTH,
         new: &ALONE,
         question: ALL,
-        answer: Answer::OtherRun(
-            "p: unchanged\nq: gone\n1 unchanged, 0 unchanged but for the trace kept, 0 changed, 0 new, 1 gone\n",
-        ),
+        outcome: Ok(false),
+        written: "p: unchanged\nq: gone\n1 unchanged, 0 unchanged but for the trace kept, 0 changed, 0 new, 1 gone\n",
     },
     // a neighbour added
     Case {
         old: &ALONE,
         new: &BOTH,
         question: ALL,
-        answer: Answer::OtherRun(
-            "p: unchanged\nq: new\n1 unchanged, 0 unchanged but for the trace kept, 0 changed, 1 new, 0 gone\n",
-        ),
+        outcome: Ok(false),
+        written: "p: unchanged\nq: new\n1 unchanged, 0 unchanged but for the trace kept, 0 changed, 1 new, 0 gone\n",
     },
     // a neighbour replaced by one that has no image
     Case {
         old: &BOTH,
         new: &[FRAME, P, NUMBERS, BARE_Q, NUMBERS, FIRST, SECOND],
         question: ALL,
-        answer: Answer::OtherRun(
-            "p: unchanged\nq: changed\n  image: one -> none\n1 unchanged, 0 unchanged but for the trace kept, 1 changed, 0 new, 0 gone\n",
-        ),
+        outcome: Ok(false),
+        written: "p: unchanged\nq: changed\n  image: one -> none\n1 unchanged, 0 unchanged but for the trace kept, 1 changed, 0 new, 0 gone\n",
     },
     // an image that is not there, and names that no partition has
     Case {
         old: &ALONE,
         new: &[FRAME, MISSING_P, NUMBERS, FIRST],
         question: ALL,
-        answer: Answer::Refused(Fault::MissingFile("none.img")),
+        outcome: Err(Fault::MissingFile("none.img")),
+        written: "",
     },
     Case {
         old: &ALONE,
@@ -393,7 +347,8 @@ const CASES: [Case<'static>; 20] = [
             partition: Some("z"),
             rename: None,
         },
-        answer: Answer::Refused(Fault::NoPartition("z")),
+        outcome: Err(Fault::NoPartition("z")),
+        written: "",
     },
     Case {
         old: &ALONE,
@@ -402,7 +357,8 @@ const CASES: [Case<'static>; 20] = [
             partition: None,
             rename: Some("z=q"),
         },
-        answer: Answer::Refused(Fault::NoPartition("z")),
+        outcome: Err(Fault::NoPartition("z")),
+        written: "",
     },
     Case {
         old: &ALONE,
@@ -411,21 +367,27 @@ const CASES: [Case<'static>; 20] = [
             partition: None,
             rename: Some("p=q,p"),
         },
-        answer: Answer::Refused(Fault::NoPartition("p")),
+        outcome: Err(Fault::NoPartition("p")),
+        written: "",
     },
 ];
 
+// Asserts that each of these cases is answered as wanted, in words.
+fn check_cases(rt: &impl Abort, alloc: Global, cases: &[Case<'_>], files: &Files) {
+    for (place, case) in cases.iter().enumerate() {
+        assert!(rt; is_answered(alloc, case, Format::Text, files), "{place}");
+    }
+}
+
 #[test]
 fn a_question_is_answered(rt: HostRuntime) {
-    let mut files = Files::new(rt.alloc());
-    assert!(rt; are_added(rt.alloc(), &mut files));
-    for (place, case) in CASES.iter().enumerate() {
-        assert!(rt;
-            is_answered(rt.alloc(), case, Format::Text, &files),
-            "{place}"
-        );
-    }
-    assert!(rt; is_answered(rt.alloc(), &EACH_KIND, Format::Json, &files));
+    let alloc = rt.alloc();
+    let mut files = Files::new(alloc);
+    assert!(rt; are_added(alloc, &mut files));
+    check_cases(&rt, alloc, &WRITTEN_OTHERWISE, &files);
+    check_cases(&rt, alloc, &CASES, &files);
+    assert!(rt; is_answered(alloc, &SWAPPED_WINDOWS, Format::Text, &files));
+    assert!(rt; is_answered(alloc, &EACH_KIND, Format::Json, &files));
 }
 
 // A guest that counts on without end.
@@ -471,10 +433,10 @@ fn an_unchanged_partition_runs_alike(rt: HostRuntime) {
     let alloc = rt.alloc();
     let mut files = Files::new(alloc);
     assert!(rt; is_added(alloc, &mut files, "p.img", COUNTING));
-    for tick in TICKS {
-        for case in [&TWICE_THE_FRAME, &REPEATED_STAGE] {
+    for tick in TICKS.iter() {
+        for case in WRITTEN_OTHERWISE.iter() {
             assert!(rt;
-                runs_alike(alloc, case, &files, tick) == Some(true),
+                runs_alike(alloc, case, &files, *tick) == Some(true),
                 "{tick}"
             );
         }

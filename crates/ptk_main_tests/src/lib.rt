@@ -23,4 +23,6 @@ mod formats;
 #[cfg(test)]
 mod impacts;
 #[cfg(test)]
+mod parts;
+#[cfg(test)]
 mod statistics;

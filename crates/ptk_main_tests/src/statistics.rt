@@ -1,16 +1,11 @@
 //! The figures of runs of four small guests. What they are was worked out by hand from the costs of docs/GUEST_ABI.md;
 //! the ticks stand beside the guests. A helper that promises nothing is between the rows and the calls that they test.
 
+use crate::parts::{FIRST, FRAME, NUMBERS};
 use ptk_main_commands::statistics::{Form, stats_with};
-use ptk_main_guests::{Config, Files, guest_of};
+use ptk_main_guests::{Config, Files, P, guest_of};
 use ptk_words::{LAST_TICK, Tick};
 use std::alloc::Global;
-
-/// The table of partition p.
-const P: &str = "[[partition]]\nname = \"p\"\nimage = \"p.img\"\n";
-
-const NUMBERS: &str =
-    "memory = 4096\nthreads = 4\nstack = 256\nmutexes = 4\nconds = 4\nkeys = 4\ninterval = 100\nring = 16\noutput = 64\ntrace = 16\n";
 
 /// exit(0).
 pub(crate) const EXIT: &str = "
@@ -84,11 +79,11 @@ struct Case<'a> {
 }
 
 /// What is written of each run.
-const CASES: [Case<'static>; 4] = [
+static CASES: [Case<'static>; 4] = [
     // two steps, and the partition is halted from the tick behind the one of its exit
     Case {
         source: EXIT,
-        window: "[[window]]\nstart = 0\nlength = 20\npartition = \"p\"\n",
+        window: FIRST,
         ticks: 30,
         written: "partition p exited\n  own ticks        used        idle        lost  after halt  lost ahead       steps\n         20           2           0           0          18           0           2\nthread does            since       steps   preempted       to run    to run own  least stack\n     1 halted              2           2           0            0             0   0x00001000\nthread ticks     running       ready       input       sleep        join       mutex   condition      relock\n     1 own             2           0           0           0           0           0           0           0\n     1 all             2           0           0           0           0           0           0           0\nthread activations       least        mean    greatest     at tick   own least    own mean own greatest\nthread call                           made     refused\n     1 exit                              1           0\n mutex longest       ticks   own ticks      thread     at tick\n\n",
     },
@@ -144,7 +139,7 @@ fn is_run(
 
 // Whether this is written of the run of a case.
 fn is_written(alloc: Global, case: &Case<'_>, form: Form, written: &str) -> bool {
-    let parts = ["frame = 40\n", P, NUMBERS, case.window];
+    let parts = [FRAME, P, NUMBERS, case.window];
     match guest_of(alloc, &parts, &[case.source]) {
         Some((config, files)) => is_run(alloc, &config, &files, case, form, written),
         None => false,
