@@ -14,6 +14,7 @@ use ptk_main_faults::Fault;
 use ptk_main_guests::P;
 use ptk_main_line::{CheckOptions, DisasmOptions, Format};
 use std::alloc::AllocError;
+use std::process::Abort;
 use std::{env, fs, io};
 
 /// The section of q, with an image of its own.
@@ -358,61 +359,61 @@ fn is_left<'a>(
 }
 
 // Asserts the status of each command, in their order.
-fn check_commands(rt: &HostRuntime) {
+fn check_commands(rt: &impl Abort, host: &HostRuntime) {
     for (line, status) in COMMANDS.iter() {
-        assert!(rt; has_status(rt, line, *status), "{line}");
+        assert!(rt; has_status(host, line, *status), "{line}");
     }
 }
 
 // Asserts the files that the commands wrote or left.
-fn check_written(rt: &HostRuntime) {
+fn check_written(rt: &impl Abort, host: &HostRuntime) {
     for (name, bytes) in WRITTEN.iter() {
-        assert!(rt; has_bytes(rt, name, bytes), "{name}");
+        assert!(rt; has_bytes(host, name, bytes), "{name}");
     }
-    assert!(rt; has_bytes(rt, "hello.s", HELLO_SOURCE.as_bytes()));
+    assert!(rt; has_bytes(host, "hello.s", HELLO_SOURCE.as_bytes()));
 }
 
 // Asserts that the files for which there was nothing to write are not there.
-fn check_unwritten(rt: &HostRuntime) {
+fn check_unwritten(rt: &impl Abort, host: &HostRuntime) {
     for name in UNWRITTEN.iter() {
-        assert!(rt; is_unread(rt, name, &Fault::MissingFile(name)), "{name}");
+        assert!(rt; is_unread(host, name, &Fault::MissingFile(name)), "{name}");
     }
 }
 
 #[test]
 fn each_command_has_its_status(rt: HostRuntime) {
     assert!(rt; has_entered(&rt, "each-command-has-its-status"));
-    check_commands(&rt);
-    check_written(&rt);
-    check_unwritten(&rt);
+    check_commands(&rt, &rt);
+    check_written(&rt, &rt);
+    check_unwritten(&rt, &rt);
     assert!(rt; has_left(&rt, "each-command-has-its-status"));
 }
 
 // Asserts the faults of the files that can't be read.
-fn check_unread(rt: &HostRuntime) {
+fn check_unread(rt: &impl Abort, host: &HostRuntime) {
     for (name, fault) in READS.iter() {
-        assert!(rt; is_unread(rt, name, fault), "{name}");
+        assert!(rt; is_unread(host, name, fault), "{name}");
     }
 }
 
 // Asserts the faults of the files that have no configuration.
-fn check_unconfigured(rt: &HostRuntime) {
+fn check_unconfigured(rt: &impl Abort, host: &HostRuntime) {
     for (name, fault) in CONFIGS.iter() {
-        assert!(rt; is_unconfigured(rt, name, fault), "{name}");
+        assert!(rt; is_unconfigured(host, name, fault), "{name}");
     }
 }
 
 // Asserts what `check` says of each configuration, where it explains, or where it does not.
-fn check_checked(rt: &HostRuntime, explain: bool) {
+fn check_checked(rt: &impl Abort, host: &HostRuntime, explain: bool) {
     for (file, fault) in CHECKS.iter() {
-        assert!(rt; is_checked(rt, file, explain, fault), "{file}");
+        assert!(rt; is_checked(host, file, explain, fault), "{file}");
     }
 }
 
 // Asserts of which images no source is made.
-fn check_left(rt: &HostRuntime) {
+fn check_left(rt: &impl Abort, host: &HostRuntime) {
     for (image, symbols, fault) in DISASMS.iter() {
-        assert!(rt; is_left(rt, image, *symbols, fault), "{image}");
+        assert!(rt; is_left(host, image, *symbols, fault), "{image}");
     }
 }
 
@@ -424,11 +425,11 @@ fn is_kept(rt: &HostRuntime, fault: Fault<'static>) -> bool {
 #[test]
 fn each_fault_is_told(rt: HostRuntime) {
     assert!(rt; has_entered(&rt, "each-fault-is-told"));
-    check_unread(&rt);
-    check_unconfigured(&rt);
-    check_checked(&rt, false);
-    check_checked(&rt, true);
-    check_left(&rt);
+    check_unread(&rt, &rt);
+    check_unconfigured(&rt, &rt);
+    check_checked(&rt, &rt, false);
+    check_checked(&rt, &rt, true);
+    check_left(&rt, &rt);
     assert!(rt; is_kept(&rt, Fault::Config(2)));
     assert!(rt; is_kept(&rt, Fault::NoMemory));
     assert!(rt; has_left(&rt, "each-fault-is-told"));
