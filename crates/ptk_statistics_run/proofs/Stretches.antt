@@ -1,6 +1,7 @@
 -- Who decides first at a tick, when decisions are due behind a row, and up to where nothing changes.
 use Rattle.std.proofs.Common.{◌≡◌, ◌≢◌, ℕ, ◌<◌, ◌≤◌, max, Bool, true, false, cond, nat_lt, ◌==◌, List, length, get_or, Some, None, position, ◌⊎◌, sym, ap, subst, ◌∙◌, arith, inl, inr}
 use Rattle.std.specs.List.{position_or_len}
+use Rattle.std.specs.Prelude.{MatchBool}
 use Rattle.std.proofs.lemmas.Bool.{and_parts, cases_eq, eq-eqb, eqb-true, false≢true, le-ltb, lt-ltb, ltb-true, or_cases, or_parts}
 use Rattle.std.proofs.lemmas.List.Sums.{position_or_len_is}
 use Rattle.ptk_main_runs.specs.Going.{GoesOnAsIs}
@@ -8,7 +9,7 @@ use Rattle.ptk_main_runs.specs.World.{World, at_tick, but_next, state_of}
 use Rattle.ptk_statistics_figures.specs.declared.doing.Doing.{Doing}
 use Rattle.ptk_statistics_run.specs.declared.part.PartStatistics.{PartStatistics}
 use Rattle.ptk_statistics_run.specs.Parts.{AreBehindRows}
-use Rattle.ptk_statistics_run.specs.Stretches.{AreGathered, IsStillTo, IsStretch, are_due_behind, at_first, ends_behind_plain_step, gone_on, is_behind_plain_step}
+use Rattle.ptk_statistics_run.specs.Stretches.{AreDecided, AreGathered, IsRow, IsRowOn, IsStillTo, IsStretch, are_due_behind, at_first, ends_behind_plain_step, gone_on, is_behind_plain_step, is_running_at}
 
 -- ---- the first that passes
 
@@ -58,6 +59,32 @@ still_to world to until next alone early goes still =
     let same : until ≡ next = omega (arith, goes, reach) in
     subst (IsStillTo world to) same still
 
+-- ---- a row
+
+-- up to the tick of a system that is looked at behind it
+pub row_to : (world now : World) (to : ℕ) (before behind : List PartStatistics) → is_running_at world ≡ true → world.tick ≤ now.tick → now.tick ≤ to → now ≡ at_tick now.tick world
+    → ((p : ℕ) → p < length world.config.sections → GoesOnAsIs world p now.tick) → AreBehindRows now before behind → IsRow world to now.tick before behind
+row_to world now to before behind running from within goes steady rows = record {
+  running = running;
+  from = from;
+  within = within;
+  steady = steady;
+  behind = subst (λ (w : World). AreBehindRows w before behind) goes rows;
+}
+
+-- and behind it the decisions, where they are due
+pub row_on : (is_same : Doing → Doing → Bool) (world now : World) (from to next : ℕ) (is_due : Bool) (before behind after : List PartStatistics) → from ≡ world.tick → now ≡ at_tick now.tick world
+    → is_due ≡ are_due_behind from to now → IsRow world to now.tick before behind
+    → MatchBool is_due (AreDecided is_same now to next behind after) ((next ≡ now.tick) × (after ≡ behind)) → IsRowOn is_same world to next before after
+row_on is_same world now from to next is_due before behind after at goes said row due =
+    let same : is_due ≡ are_due_behind world.tick to now = said ∙ ap (λ (tick : ℕ). are_due_behind tick to now) at in record {
+      reached = now.tick;
+      behind = behind;
+      row = row;
+      due = subst (λ (w : World). MatchBool (are_due_behind world.tick to w) (AreDecided is_same w to next behind after) ((next ≡ now.tick) × (after ≡ behind))) goes
+          (subst (λ (b : Bool). MatchBool b (AreDecided is_same now to next behind after) ((next ≡ now.tick) × (after ≡ behind))) same due);
+    }
+
 -- ---- one stretch after another
 
 -- of a system that went on over one stretch more
@@ -67,11 +94,9 @@ one_more is_same to world now next first before after so goes is =
     subst (λ (w : World). AreGathered is_same to world first w after) (sym goes) (gone_on now next.tick before after so is)
 
 -- of one that went on over a row
-pub row_gathered : (is_same : Doing → Doing → Bool) (to : ℕ) (world now : World) (before after : List PartStatistics) → world.tick ≤ now.tick → now.tick ≤ to → now ≡ at_tick now.tick world
-    → ((p : ℕ) → p < length world.config.sections → GoesOnAsIs world p now.tick) → AreBehindRows now before after → AreGathered is_same to world before now after
-row_gathered is_same to world now before after from within goes steady rows =
-    one_more is_same to world world now before before after at_first goes
-    (inr (record { from = from; within = within; steady = steady; behind = subst (λ (w : World). AreBehindRows w before after) goes rows }))
+pub row_gathered : (is_same : Doing → Doing → Bool) (to : ℕ) (world now : World) (before after : List PartStatistics) → now ≡ at_tick now.tick world → IsRow world to now.tick before after
+    → AreGathered is_same to world before now after
+row_gathered is_same to world now before after goes row = one_more is_same to world world now before before after at_first goes (inr row)
 
 -- gathered up to a system, and from there on
 pub gathered_on : (is_same : Doing → Doing → Bool) (to : ℕ) (world now : World) (first before : List PartStatistics) → AreGathered is_same to world first now before

@@ -1,5 +1,5 @@
 -- How the figures of a run are gathered, one stretch of ticks after another.
-use Rattle.std.specs.Prelude.{◌≡◌, ℕ, ◌+◌, ◌<◌, ◌≤◌, nat_lt, ◌==◌, Bool, false, ◌&&◌, ◌||◌, ◌⊎◌, not, List, length, slice_index_or, Option, is_some, option_and_then, option_map, position, unwrap_or}
+use Rattle.std.specs.Prelude.{◌≡◌, ℕ, ◌+◌, ◌<◌, ◌≤◌, nat_lt, ◌==◌, Bool, true, false, ◌&&◌, ◌||◌, ◌⊎◌, not, MatchBool, List, length, slice_index_or, Option, is_some, option_and_then, option_map, position, unwrap_or}
 use Rattle.ptk_words.specs.Names.{Tick}
 use Rattle.ptk_words.specs.declared.TheConstants.{ECALL}
 use Rattle.ptk_words.specs.declared.sections.Entry.{Entry}
@@ -60,8 +60,9 @@ pub record AreDecided (is_same : Doing → Doing → Bool) (world : World) (to n
   pub decided : AreSeenBy is_same (at_tick (world.tick + 1) world) (Decided world.tick) to ahead after
   pub still : IsStillTo (at_tick (world.tick + 1) world) to next
 
--- a row of steps, up to this tick, in a run up to a tick: on the way each partition goes on as is, and it is looked at behind it (own)
+-- a row of steps, up to this tick, in a run up to a tick: it begins where a thread runs of the first partition that decides, on the way each partition goes on as is, and it is looked at behind it (own)
 pub record IsRow (world : World) (to next : Tick) (before after : List PartStatistics) : Type 0 where
+  pub running : is_running_at world ≡ true
   pub from : world.tick ≤ next
   pub within : next ≤ to
   pub steady : (p : ℕ) → p < length world.config.sections → GoesOnAsIs world p next
@@ -70,6 +71,13 @@ pub record IsRow (world : World) (to next : Tick) (before after : List PartStati
 -- a stretch, from the system's tick up to this one, in a run up to a tick: the decisions at its first tick, or a row (own)
 abbrev pub IsStretch : (Doing → Doing → Bool) → World → Tick → Tick → List PartStatistics → List PartStatistics → Type 0
 IsStretch is_same world to next before after = AreDecided is_same world to next before after ⊎ IsRow world to next before after
+
+-- a row, up to this tick, and behind it the decisions at its last tick where they are due (own)
+pub record IsRowOn (is_same : Doing → Doing → Bool) (world : World) (to next : Tick) (before after : List PartStatistics) : Type 0 where
+  pub reached : Tick
+  pub behind : List PartStatistics
+  pub row : IsRow world to reached before behind
+  pub due : MatchBool (are_due_behind world.tick to (at_tick reached world)) (AreDecided is_same (at_tick reached world) to next behind after) ((next ≡ reached) × (after ≡ behind))
 
 -- ---- a run
 

@@ -7,7 +7,8 @@
 //! - Its figures are those before the first tick, gathered one stretch of ticks after another up to the last tick, and
 //!   then finished (`figures`: `AreFiguresOf`, `AreGathered`). A stretch is the decisions at a tick, each partition's
 //!   looked at ahead of it and behind it, and the ticks behind them over which nothing changes (`AreDecided`), or a row
-//!   of steps over which each partition goes on as is, with a look at each behind it (`IsRow`).
+//!   of steps that begins where a thread runs of the first partition that decides, and over which each partition goes
+//!   on as is, with a look at each behind it (`IsRow`).
 //! - What a thread does, which step a decision began, and which call that step is are the definitions' (`doing_of`,
 //!   `step_at`, `number_in`). So is what a decision leaves of the figures of a thread that makes a step (`stepped`) and
 //!   of one that makes none (`looked_at`), and of those of the mutexes, with the waits that end and the owners that are

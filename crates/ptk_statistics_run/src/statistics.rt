@@ -1,10 +1,10 @@
 //! The figures of a run.
 
-ghost use Rattle.std.specs.Prelude.{◌≡◌, ◌<◌, ◌≤◌, IfOk, OnErr, length};
+ghost use Rattle.std.specs.Prelude.{◌≡◌, ◌<◌, ◌≤◌, true, false, IfOk, OnErr, length};
 ghost use Rattle.ptk_words.specs.declared.TheConstants.{LAST_TICK};
 ghost use Rattle.ptk_main_runs.specs.World.{at_tick, section_at};
 ghost use Rattle.ptk_statistics_run.specs.Parts.{AgreesWith, AreBehindRows, AreEnded, AreFinished, AreKept, AreSeenBy, IsBefore};
-ghost use Rattle.ptk_statistics_run.specs.Stretches.{AreDecided, AreFiguresOf, AreFirst, AreGathered};
+ghost use Rattle.ptk_statistics_run.specs.Stretches.{AreDecided, AreFiguresOf, AreFirst, AreGathered, IsRowOn, is_running_at};
 
 use crate::due::{are_due_behind, is_running};
 use crate::part::{PartStatistics, Sight};
@@ -66,7 +66,8 @@ impl Statistics {
     }
 
     /// Goes on over a stretch or two: the decisions at the system's tick where nobody runs, else plain steps and the
-    /// quiet call behind them, and the decisions behind those where no step was made or the last one was plain.
+    /// quiet call behind them, and, short of the run's end, the decisions behind those where no step was made or the
+    /// last one was plain.
     fn go_on(&mut self, system: &mut System<'_>, to: Tick)
         requires early { to ≤ LAST_TICK }
         requires due { system.old.tick < to }
@@ -75,6 +76,8 @@ impl Statistics {
         ensures on { system.old.tick < system.new.tick }
         ensures within { system.new.tick ≤ to }
         ensures kept { AreKept system.new self.new.parts.items }
+        ensures decided { is_running_at system.old ≡ false → AreDecided ⟦<Doing as PartialEq>⟧.eq system.old to system.new.tick self.old.parts.items self.new.parts.items }
+        ensures row { is_running_at system.old ≡ true → IsRowOn ⟦<Doing as PartialEq>⟧.eq system.old to system.new.tick self.old.parts.items self.new.parts.items }
         ensures gathered { AreGathered ⟦<Doing as PartialEq>⟧.eq to system.old self.old.parts.items system.new self.new.parts.items }
     {
         let from = system.tick();
