@@ -8,7 +8,7 @@ use Rattle.ptk_statistics_run.specs.Stretches.{AreFiguresOf}
 use Rattle.ptk_statistics_run.specs.World.{World, at_tick}
 use Rattle.ptk_statistics_run.specs.declared.statistics.Statistics.{Statistics}
 
--- the kind of what a thread does is the same
+-- the kind of what a thread does is the same (own)
 abbrev pub same_doing : Doing → Doing → Bool
 same_doing = (doing_eq.ghosts).eq
 
