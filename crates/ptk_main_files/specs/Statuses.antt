@@ -24,9 +24,10 @@ abbrev pub IsStatedStatus : (Fault → Type 0) → (Configuration → ℕ → Ty
 IsStatedStatus Q P bytes status =
     IsFaultStatus (λ fault. IsConfigFault bytes fault × Q fault) status ⊎ ((config : Configuration) × (configuration_in bytes ≡ Ok config) × P config status)
 
--- no configuration is read from the file of this name, or it is so with one that a text states (own)
-abbrev pub IsConfigStatus : Bor (List ℕ) → (Configuration → ℕ → Type 0) → ℕ → Type 0
-IsConfigStatus name P status = IsFaultStatus (IsConfigFileFault name) status ⊎ ((config : Configuration) × IsStated config × P config status)
+-- no configuration is read, by a fault of this file or of some text with which it is so, or it is so with one that a text states (own)
+abbrev pub IsConfigStatus : (Fault → Type 0) → Bor (List ℕ) → (Configuration → ℕ → Type 0) → ℕ → Type 0
+IsConfigStatus Q name P status =
+    IsFaultStatus (λ fault. IsConfigFileFault name fault × Q fault) status ⊎ ((config : Configuration) × IsStated config × P config status)
 
 -- ---- each request, with what the writer holds before and behind it
 
@@ -58,22 +59,22 @@ IsImpactStatus options old new earlier later status =
 
 -- ---- each command
 
--- `run`; of a text that is refused nothing is written (own)
+-- `run`; where its file is not read, or its text is refused, nothing is written (own)
 abbrev pub IsRunEnd : RunOptions → Option (List ℕ) → Option (List ℕ) → ℕ → Type 0
-IsRunEnd options old new status = IsTextStatus options.run.file (IsStatedStatus (λ _. new ≡ old) (IsRunStatus options old new)) status
+IsRunEnd options old new status = IsTextStatus (λ _. new ≡ old) options.run.file (IsStatedStatus (λ _. new ≡ old) (IsRunStatus options old new)) status
 
--- `trace`, where an option of a trace in words is there only beside `--decode`; of a text that is refused nothing is written (own)
+-- `trace`, where an option of a trace in words is there only beside `--decode`; where its file is not read, or its text is refused, nothing is written (own)
 abbrev pub IsTraceEnd : TraceOptions → Option (List ℕ) → Option (List ℕ) → ℕ → Type 0
-IsTraceEnd options old new status = IsTextStatus options.run.file (IsStatedStatus (λ _. new ≡ old) (IsTraceStatus options old new)) status
+IsTraceEnd options old new status = IsTextStatus (λ _. new ≡ old) options.run.file (IsStatedStatus (λ _. new ≡ old) (IsTraceStatus options old new)) status
 
--- `check` (own)
+-- `check`; where its file is not read nothing is written (own)
 abbrev pub IsCheckEnd : CheckOptions → Option (List ℕ) → Option (List ℕ) → ℕ → Type 0
-IsCheckEnd options old new status = IsTextStatus options.file (IsCheckStatus options old new) status
+IsCheckEnd options old new status = IsTextStatus (λ _. new ≡ old) options.file (IsCheckStatus options old new) status
 
--- `impact` (own)
+-- `impact`; where a configuration is not read nothing is written (own)
 abbrev pub IsImpactEnd : ImpactOptions → Option (List ℕ) → Option (List ℕ) → ℕ → Type 0
 IsImpactEnd options old new status =
-    IsConfigStatus options.old (λ earlier. IsConfigStatus options.new (IsImpactStatus options old new earlier)) status
+    IsConfigStatus (λ _. new ≡ old) options.old (λ earlier. IsConfigStatus (λ _. new ≡ old) options.new (IsImpactStatus options old new earlier)) status
 
 -- `trace`: a usage error where an option of a trace in words is there without `--decode` (own)
 pub record IsTraceAnswer (options : TraceOptions) (old new : Option (List ℕ)) (status : ℕ) : Type 0 where

@@ -30,7 +30,7 @@ fn impact_from<W: Write>(
     options: ImpactOptions<'_>,
     out: &mut W,
 ) -> u8
-    ensures { IsConfigStatus options.entry.new (IsImpactStatus options.entry (W.contents out.old) (W.contents out.new) old.now) result }
+    ensures { IsConfigStatus (λ _. W.contents out.new ≡ W.contents out.old) options.entry.new (IsImpactStatus options.entry (W.contents out.old) (W.contents out.new) old.now) result }
 {
     match config_in(rt, options.new) {
         Ok(config) => impact_between(rt, old, &config, options, out),

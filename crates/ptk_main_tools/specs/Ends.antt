@@ -26,9 +26,9 @@ IsEndStatus P Q status = ((status ≡ status_number Done) × P) ⊎ IsFaultStatu
 
 -- ---- what it read first
 
--- the file of this name is not read as text, or it is so with some text (own)
-abbrev pub IsTextStatus : Bor (List ℕ) → (List ℕ → ℕ → Type 0) → ℕ → Type 0
-IsTextStatus name P status = IsFaultStatus (IsTextFault name) status ⊎ ((bytes : List ℕ) × P bytes status)
+-- the file of this name is not read as text, by a fault with which it is so, or it is so with some text (own)
+abbrev pub IsTextStatus : (Fault → Type 0) → Bor (List ℕ) → (List ℕ → ℕ → Type 0) → ℕ → Type 0
+IsTextStatus Q name P status = IsFaultStatus (λ fault. IsTextFault name fault × Q fault) status ⊎ ((bytes : List ℕ) × P bytes status)
 
 -- ---- each command
 
@@ -38,7 +38,7 @@ IsAsmStatus bytes status = IsEndStatus (IsOk (source bytes)) (IsAsmFault bytes) 
 
 -- `asm`: a usage error where two of its files have the same words, and else by its source, unless two are one (own)
 abbrev pub IsAsmEnd : AsmOptions → ℕ → Type 0
-IsAsmEnd options status = (AreMixed options → IsUsageStatus status) × (IsUsageStatus status ⊎ IsTextStatus options.source IsAsmStatus status)
+IsAsmEnd options status = (AreMixed options → IsUsageStatus status) × (IsUsageStatus status ⊎ IsTextStatus (λ _. Unit {0}) options.source IsAsmStatus status)
 
 -- `disasm`: done only where the text of an image was written (own)
 abbrev pub IsDisasmEnd : DisasmOptions → Option (List ℕ) → Option (List ℕ) → ℕ → Type 0
