@@ -76,7 +76,8 @@ abbrev pub IsImpactEnd : ImpactOptions → Option (List ℕ) → Option (List �
 IsImpactEnd options old new status =
     IsConfigStatus (λ _. new ≡ old) options.old (λ earlier. IsConfigStatus (λ _. new ≡ old) options.new (IsImpactStatus options old new earlier)) status
 
--- `trace`: a usage error where an option of a trace in words is there without `--decode` (own)
+-- `trace`: a usage error where an option of a trace in words is there without `--decode`, and nothing is written then (own)
 pub record IsTraceAnswer (options : TraceOptions) (old new : Option (List ℕ)) (status : ℕ) : Type 0 where
   pub undecoded : wants_words options ≡ true → options.decode ≡ false → IsUsageStatus status
+  pub unwritten : wants_words options ≡ true → options.decode ≡ false → new ≡ old
   pub decoded : (wants_words options ≡ true → options.decode ≡ true) → IsTraceEnd options old new status

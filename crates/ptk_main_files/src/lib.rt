@@ -26,7 +26,8 @@
 //!   refused on request the explanation, or its JSON object (`refusal_in_form`, `check_in_form`).
 //! - On standard error the line of a refused text is written, and on request the explanation behind it (`put_refused`),
 //!   and the progress of a run that is not to be quiet (`put_progress`).
-//! - `trace` is a usage error where an option of a trace in words is there without `--decode`.
+//! - `trace` is a usage error where an option of a trace in words is there without `--decode`, and nothing is written
+//!   then.
 //! - Which files it reads is tested; that what goes to standard error goes there is neither proved nor tested.
 //!
 //! Below are the command line (`ptk_main_line`), the lines of faults (`ptk_main_faults`), the reading of files and

@@ -23,10 +23,11 @@ use ptk_words::{ThreadNo, Tick};
 use std::io::Write;
 
 /// Writes the last steps of a partition of the configuration in a file, and gives the number of the status. A usage
-/// error where an option of a trace in words is there without `--decode`.
+/// error where an option of a trace in words is there without `--decode`, and nothing is written then.
 pub fn trace<W: Write>(rt: &HostRuntime, options: TraceOptions<'_>, out: &mut W) -> u8
     requires { IsTraceInRange options }
     ensures undecoded { wants_words options.entry ≡ true → options.entry.decode ≡ false → IsUsageStatus result }
+    ensures unwritten { wants_words options.entry ≡ true → options.entry.decode ≡ false → out.new ≡ out.old }
     ensures decoded { (wants_words options.entry ≡ true → options.entry.decode ≡ true) → IsTraceEnd options.entry (W.contents out.old) (W.contents out.new) result }
 {
     if options.wants_words() && !options.decode {
