@@ -159,7 +159,7 @@ pub record IsUnlikeRun (options : RunOptions) (config : Configuration) (old new 
   pub failed : IsFailed (run_question options expected) (world_at config files end) old new fault
   pub status : IsUnexpected fault
 
--- with these images it is the first missing one, and nothing is written (own)
+-- with these images it is the first missing one, and nothing is written, or memory ran out (own)
 abbrev pub IsMissingFault : Configuration → Option (List ℕ) → Option (List ℕ) → Fault → List NamedFile → Type 0
 IsMissingFault config old new fault files = IsFaultOf (missing_image config files) (missing_image config files) fault × IsSilent fault old new
 
@@ -193,7 +193,7 @@ abbrev pub PutsWorded : TraceOptions → List (ℕ × List ℕ) → Configuratio
 PutsWorded options symbols config files old new =
     (p : ℕ) → part_named config options.partition.now ≡ Some p → PutsWords (filter_for options) symbols config files options.run.ticks p old new
 
--- so it is with the symbols of the file that is named (own)
+-- so it is with the symbols of a text, of an empty one where no file is named (own)
 abbrev pub PutsDecoded : TraceOptions → Configuration → List NamedFile → Option (List ℕ) → Option (List ℕ) → Type 0
 PutsDecoded options config files old new =
     (symbols : List (ℕ × List ℕ)) × AreSymbolsOf options.symbols symbols × PutsWorded options symbols config files old new

@@ -18,12 +18,13 @@
 //! - A fault is of an image or another file that is not read, by its name, or the one that the answer promises for such
 //!   files (`run_config`, `trace_config`, `check_config`, `put_impact`).
 //! - What is asked for is what is written, in the form that is asked for: the report (`run_config`), the trace
-//!   (`trace_config`), in words the steps that are asked for with the symbols of the file that is named (`put_words`),
-//!   the line of a check, on request behind the explanation, or its JSON object (`check_in_form`), and what stands
-//!   between two configurations (`compare`).
-//! - Where a text that was read is refused, or what is read or asked for behind it, the writer is as it was, unless
-//!   memory ran out or the writer failed; but a run that was not as expected writes its report, and a check of what is
-//!   refused on request the explanation, or its JSON object (`refusal_in_form`, `check_in_form`).
+//!   (`trace_config`), in words the steps that are asked for with the symbols of a text, of an empty one where no file
+//!   is named (`put_words`), the line of a check, on request behind the explanation, or its JSON object
+//!   (`check_in_form`), and what stands between two configurations (`compare`).
+//! - Where its file is not read, the writer is as it was (`run`, `trace`, `check`, `impact`). Where a text that was
+//!   read is refused, or what is read or asked for behind it, the writer is as it was, unless memory ran out or the
+//!   writer failed; but a run that was not as expected writes its report, and a check of what is refused on request the
+//!   explanation, or its JSON object (`refusal_in_form`, `check_in_form`).
 //! - On standard error the line of a refused text is written, and on request the explanation behind it (`put_refused`),
 //!   and the progress of a run that is not to be quiet (`put_progress`).
 //! - `trace` is a usage error where an option of a trace in words is there without `--decode`, and nothing is written

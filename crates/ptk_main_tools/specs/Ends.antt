@@ -40,6 +40,6 @@ IsAsmStatus bytes status = IsEndStatus (IsOk (source bytes)) (IsAsmFault bytes) 
 abbrev pub IsAsmEnd : AsmOptions → ℕ → Type 0
 IsAsmEnd options status = (AreMixed options → IsUsageStatus status) × (IsUsageStatus status ⊎ IsTextStatus (λ _. Unit {0}) options.source IsAsmStatus status)
 
--- `disasm`: done only where the text of an image was written (own)
+-- `disasm`: done only where there is a text of an image, and where no file is named only where it is written (own)
 abbrev pub IsDisasmEnd : DisasmOptions → Option (List ℕ) → Option (List ℕ) → ℕ → Type 0
 IsDisasmEnd options old new status = IsEndStatus (IsDisassembled options old new) (IsDisasmFault options) status

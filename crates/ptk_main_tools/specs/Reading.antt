@@ -54,7 +54,7 @@ IsConfigFault bytes fault = (fault ≡ NoMemory) ⊎ ((refusal : ConfigFault) ×
 abbrev pub IsStated : Configuration → Type 0
 IsStated config = (bytes : List ℕ) × (configuration_in bytes ≡ Ok config)
 
--- the text of the file of this name is not read, or states no configuration (own)
+-- the file of this name is not read as text, or it is the fault of some text that states no configuration (own)
 abbrev pub IsConfigFileFault : Bor (List ℕ) → Fault → Type 0
 IsConfigFileFault name fault = IsTextFault name fault ⊎ ((bytes : List ℕ) × IsConfigFault bytes fault)
 
@@ -97,7 +97,7 @@ abbrev pub image_path : Option (Bor (List ℕ)) → List ℕ → List ℕ
 image_path None name = name
 image_path (Some root) name = root.now ++ (codes "/" ++ name)
 
--- a file with these bytes is added under a name, where there are any (own)
+-- a file with these bytes is added under a name, where the file is there (own)
 abbrev pub IsAdded : List ℕ → Option (List ℕ) → List NamedFile → List NamedFile → Type 0
 IsAdded name None old new = new ≡ old
 IsAdded name (Some bytes) old new = (other : List ℕ) → content_of new other ≡ (if bytes_eq name other then Some bytes else content_of old other)

@@ -38,7 +38,7 @@ abbrev pub WritesText : {F : Type 0} → (F → List ℕ → List ℕ → F → 
 WritesText writes None text old new = new ≡ old
 WritesText writes (Some name) text old new = writes old name.now text new
 
--- a text is written to the output, where no file is named (own)
+-- a text is written to the output, where no file is named, and else nothing is (own)
 abbrev pub IsShown : Option (Bor (List ℕ)) → List ℕ → Option (List ℕ) → Option (List ℕ) → Type 0
 IsShown None text old new = Appends old new text
 IsShown (Some name) text old new = new ≡ old
@@ -52,7 +52,7 @@ pub record WritesSource {F : Type 0} (writes : F → List ℕ → List ℕ → F
   pub file : WritesText writes options.target text before after
   pub shown : IsShown options.target text old new
 
--- some bytes are an image, and its text with the symbols that are named is written (own)
+-- some bytes are an image, and its text with the symbols of a text is written to the output, where no file is named, and else nothing is (own)
 pub record IsDisassembled (options : DisasmOptions) (old new : Option (List ℕ)) : Type 0 where
   pub bytes : List ℕ
   pub symbols : List (ℕ × List ℕ)

@@ -15,10 +15,12 @@
 //!   image are what is written, each into its file, and nothing where it is refused (`asm_text`).
 //! - `put_refused` writes the line of a refused source, and on request, where memory did not run out, behind it the
 //!   definition's line (`refusal_line`): the line, the column and the piece of the source, and why it is refused.
-//! - `disasm` is done only where the text of an image with the names of the symbols was written, which is the
-//!   definition's (`disassembled_with`) and a source of that image; of bytes that are no image the fault is that of the
-//!   format (`text_of`). Where it fails before, nothing is written.
-//! - Which files of the host it reads and writes is tested; which stream gets what is neither proved nor tested.
+//! - `disasm` is done only where there is a text of an image with the names of symbols, which is the definition's
+//!   (`disassembled_with`) and a source of that image; of bytes that are no image the fault is that of the format
+//!   (`text_of`). The text is written into the file that is named (`put_source`), and else on the writer (`disasm`).
+//!   Where it fails before, nothing is written.
+//! - Which files of the host it reads and writes is tested; that what goes to standard error, and the text of a request
+//!   for help to standard output, goes there is neither proved nor tested.
 //!
 //! Below are the command line (`ptk_main_line`), the lines of faults (`ptk_main_faults`), the configuration
 //! (`ptk_config`), the assembler (`ptk_asm`), the way back (`ptk_disasm`) and tables of symbols (`ptk_symbols`); above
