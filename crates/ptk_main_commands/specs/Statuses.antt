@@ -36,17 +36,17 @@ IsExplainStatus options old new config status =
     IsEndStatus (WithImages config.sections (IsExplanationOf options config old new))
     (λ fault. IsNamedRefusal options.symbols config (partition_refusal options.partition.now config) fault × IsSilent fault old new) status
 
--- `stats` (own)
+-- `stats`; where no configuration is read nothing is written (own)
 abbrev pub IsStatsEnd : StatsOptions → Option (List ℕ) → Option (List ℕ) → ℕ → Type 0
-IsStatsEnd options old new status = IsConfigStatus options.run.file (IsStatsStatus options old new) status
+IsStatsEnd options old new status = IsConfigStatus (λ _. new ≡ old) options.run.file (IsStatsStatus options old new) status
 
--- `timeline` (own)
+-- `timeline`; where no configuration is read nothing is written (own)
 abbrev pub IsTimelineEnd : TimelineOptions → Option (List ℕ) → Option (List ℕ) → ℕ → Type 0
-IsTimelineEnd options old new status = IsConfigStatus options.run.file (IsTimelineStatus options old new) status
+IsTimelineEnd options old new status = IsConfigStatus (λ _. new ≡ old) options.run.file (IsTimelineStatus options old new) status
 
--- `explain` (own)
+-- `explain`; where no configuration is read nothing is written (own)
 abbrev pub IsExplainEnd : ExplainOptions → Option (List ℕ) → Option (List ℕ) → ℕ → Type 0
-IsExplainEnd options old new status = IsConfigStatus options.run.file (IsExplainStatus options old new) status
+IsExplainEnd options old new status = IsConfigStatus (λ _. new ≡ old) options.run.file (IsExplainStatus options old new) status
 
 -- ---- every command
 

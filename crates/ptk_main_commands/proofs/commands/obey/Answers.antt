@@ -1,3 +1,4 @@
+use Rattle.std.proofs.Common.{ap}
 use Rattle.ptk_main_line.specs.declared.requests.Request.TheVariants.{Run, Trace, Timeline, Asm, Check, Disasm, Impact, Explain, Stats}
 use Rattle.ptk_main_files.proofs.Outcomes.{ended}
 use Rattle.ptk_main_commands.proofs.Requests.{of_request}
@@ -7,7 +8,7 @@ pub returns-in-Run : goal.returns-in-Run
 returns-in-Run g c = of_request c.args.request (Run c.in-Run.options) (g.W.Write.contents c.args.out.now) (g.W.Write.contents c.run.new.out) c.run.result c.in-Run.is c.run.ensures
 
 pub returns-in-Trace : goal.returns-in-Trace
-returns-in-Trace g c = of_request c.args.request (Trace c.in-Trace.options) (g.W.Write.contents c.args.out.now) (g.W.Write.contents c.trace.new.out) c.trace.result c.in-Trace.is (record { undecoded = c.trace.ensures.undecoded; decoded = c.trace.ensures.decoded })
+returns-in-Trace g c = of_request c.args.request (Trace c.in-Trace.options) (g.W.Write.contents c.args.out.now) (g.W.Write.contents c.trace.new.out) c.trace.result c.in-Trace.is (record { undecoded = c.trace.ensures.undecoded; unwritten = λ words plain. ap g.W.Write.contents (c.trace.ensures.unwritten words plain); decoded = c.trace.ensures.decoded })
 
 pub returns-in-Timeline : goal.returns-in-Timeline
 returns-in-Timeline g c = of_request c.args.request (Timeline c.in-Timeline.options) (g.W.Write.contents c.args.out.now) (g.W.Write.contents c.timeline.new.out) c.timeline.result c.in-Timeline.is c.timeline.ensures

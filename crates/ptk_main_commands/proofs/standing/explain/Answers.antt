@@ -1,4 +1,4 @@
-use Rattle.std.proofs.Common.{ℕ, List, Option, ap, inl, inr}
+use Rattle.std.proofs.Common.{ℕ, List, Option, refl, ap, inl, inr}
 use Rattle.std.proofs.lemmas.Result.{IfErr-weaker}
 use Rattle.ptk_main_faults.specs.declared.fault.Fault.{Fault}
 use Rattle.ptk_main_files.specs.Outcomes.{IsSilent, WithImages, partition_refusal}
@@ -23,4 +23,4 @@ returns-in-Ok g c =
     )
 
 pub returns-in-Err : goal.returns-in-Err
-returns-in-Err g c = inl (c.in-Err.fault, c.in-Err.ensures.unread, c.tell.ensures)
+returns-in-Err g c = inl (c.in-Err.fault, (c.in-Err.ensures.unread, refl), c.tell.ensures)
