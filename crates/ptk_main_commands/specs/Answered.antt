@@ -58,7 +58,7 @@ abbrev pub PutsStanding : Standing → List (ℕ × List ℕ) → Configuration 
 PutsStanding shown symbols config files ticks name old new =
     (p : ℕ) × (part_named config name ≡ Some p) × (text : List ℕ) × IsExplanation shown symbols (world_at config files 0) ticks p text × Appends old new text
 
--- with these images nothing is refused, and how the partition stands is written in the form that is asked for, with the symbols that are named (own)
+-- with these images nothing is refused, and how the partition stands is written in the form that is asked for, with the symbols of a text (own)
 pub record IsExplanationOf (options : ExplainOptions) (config : Configuration) (old new : Option (List ℕ)) (files : List NamedFile) : Type 0 where
   pub accepted : partition_refusal options.partition.now config files ≡ None
   pub symbols : List (ℕ × List ℕ)
@@ -82,7 +82,7 @@ PutsPicture symbols config files from to old new =
     (names : Names) × AreRoutines symbols (world_at config files 0) to (routine_of names)
     × (text : List ℕ) × IsPictureOf config (world_at config files 0) names from to text × Appends old new text
 
--- with these images nothing is refused, and of the ticks that are asked for the picture is written as SVG, with the symbols that are named, as a Value Change Dump, or as trace events (own)
+-- with these images nothing is refused, and of the ticks that are asked for the picture is written as SVG, with the symbols of a text, as a Value Change Dump, or as trace events (own)
 pub record IsTimelineOf (options : TimelineOptions) (config : Configuration) (old new : Option (List ℕ)) (files : List NamedFile) : Type 0 where
   pub accepted : picture_refusal options config files ≡ None
   pub symbols : List (ℕ × List ℕ)

@@ -72,7 +72,7 @@ IsAnswered words old new status = (request : Request) × Asks words request × I
 abbrev pub IsUnasked : List Text → ℕ → Type 0
 IsUnasked words status = (AsksNothing words × (status ≡ status_number Usage)) ⊎ (status ≡ status_number HostFailure)
 
--- the status of words that clap takes: of what they ask for, or of words that ask for nothing, which write nothing (own)
+-- the status of words that clap takes: of what they ask for, or of words that ask for nothing, which write nothing on this writer (own)
 abbrev pub IsTakenStatus : List Text → Option (List ℕ) → Option (List ℕ) → ℕ → Type 0
 IsTakenStatus words old new status = IsAnswered words old new status ⊎ (IsUnasked words status × (new ≡ old))
 
@@ -80,14 +80,14 @@ IsTakenStatus words old new status = IsAnswered words old new status ⊎ (IsUnas
 abbrev pub IsHelpStatus : ℕ → Type 0
 IsHelpStatus status = (status ≡ status_number Done) ⊎ (status ≡ status_number HostFailure)
 
--- words of a command line have this status, and this is written: of wrong ones, of a request for help, and of any that clap does not take, which write nothing; or of words that clap takes (own)
+-- words of a command line have this status, and this is written: of wrong words, of a request for help, and of any that clap does not take, which write nothing on this writer; or of words that clap takes (own)
 pub record IsAnswer (words : List Text) (old new : Option (List ℕ)) (status : ℕ) : Type 0 where
   pub wrong : AreWrong words → IsUsageStatus status
   pub help : AreHelp words → IsHelpStatus status
   pub refused : fault_of ptk words ≢ [] → (IsUsageStatus status ⊎ IsHelpStatus status) × (new ≡ old)
   pub taken : fault_of ptk words ≡ [] → IsTakenStatus words old new status
 
--- the status of the words of a command line, with what they write (own)
+-- the status of the words of a command line, by what some writer holds before and behind (own)
 abbrev pub IsLineStatus : List Text → ℕ → Type 0
 IsLineStatus words status = (old : Option (List ℕ)) × (new : Option (List ℕ)) × IsAnswer words old new status
 

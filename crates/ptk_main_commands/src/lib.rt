@@ -9,13 +9,15 @@
 //!   write nothing on the writer. Those that it takes end with the status of what they ask for; with a usage error
 //!   where they ask for nothing, or for memory, and nothing is written then (`answer_to`: `IsAnswer`).
 //! - The status of a request is that of its own command, by what came of it, and what it has written stands with it
-//!   (`obey`: `IsStatusOf`): it is done only where what was asked for is written.
+//!   (`obey`: `IsStatusOf`): it is done only where what was asked for is written; of the files of `asm` and `disasm`
+//!   the status says nothing (`asm_text`, `put_source` of `ptk_main_tools` do). Where the file of a configuration is
+//!   not read, nothing is written on the writer.
 //! - So `stats` and `explain` are done only where, for some files that are images of the sections and nothing else, the
 //!   figures, or how the partition stands, of the run that is asked for are written as text or as JSON; `timeline` only
 //!   where the ticks that are asked for are, as SVG, as a Value Change Dump or as trace events. A fault is of a file
 //!   that is not read, by its name, or the refusal for such files, of which nothing is written.
-//! - Which files it reads is tested; that the writer is standard output is neither proved nor tested: `answer_words`
-//!   alone names it.
+//! - Which files it reads is tested; that the writer is standard output is not proved, and tested by one `run` in the
+//!   gate: `answer_words` alone names it.
 //!
 //! Below are the other requests (`ptk_main_files`), and what this crate alone joins: the pictures (`ptk_timeline`,
 //! `ptk_timeline_formats`), the figures (`ptk_statistics`) and the explanation of a run (`ptk_explanation`), which are
