@@ -42,7 +42,7 @@ pub trait Watch {
 pub struct RunQuestion<'q> {
     /// The tick that it goes to, at most 2^40.
     pub ticks: Tick,
-    /// Whether it ends where every partition has halted.
+    /// Whether it ends at the first multiple of 1,024 ticks at which every partition has halted.
     pub until_halted: bool,
     /// The form of the report.
     pub format: Format,
