@@ -5,8 +5,9 @@
 //!
 //! - `run_answer` writes the report of the booted configuration after the ticks asked for, in the form asked for,
 //!   where it is asked for to no earlier end (`written`); it succeeds only where that is the expected report
-//!   (`expected`) and no partition is of a kind to fail on (`passed`). On request it ends at the first multiple of 1,024
-//!   ticks at which every partition has halted, or at the last tick, and what it wrote is what is expected (`ended`).
+//!   (`expected`) and no partition is of a kind to fail on (`passed`). On request it ends at the first multiple of
+//!   1,024 ticks at which every partition has halted, or at the last tick, and what it wrote is what is expected
+//!   (`ended`).
 //! - As JSON the report is the text of one object, with no space, and a newline (`document_text`): each partition's
 //!   name, status, steps, lost ticks, and output in Base64.
 //! - Where no image is missing its fault is out of memory, a failed write, the first byte at which the report that it
