@@ -12,7 +12,7 @@ use Rattle.ptk_main_faults.specs.declared.fault.FailureKind.{FailureKind}
 use Rattle.ptk_main_faults.specs.Told.{text}
 use Rattle.ptk_main_runs.specs.Told.{is_halted, status_in}
 use Rattle.ptk_main_runs.specs.World.{World, at_tick, state_of, world_at}
-use Rattle.ptk_main_answers.specs.Expectations.{AreHalted, IsEnd, IsFailed, IsFailedOn, IsFailure, IsLook, IsNoFailure, IsOnWay, IsPassed, IsReported, IsUnlike}
+use Rattle.ptk_main_answers.specs.Expectations.{AreHalted, IsEnd, IsFailed, IsFailedOn, IsFailure, IsHaltLook, IsNoFailure, IsOnWay, IsPassed, IsReported, IsUnlike}
 use Rattle.ptk_main_answers.specs.Images.{part_name}
 use Rattle.ptk_main_answers.specs.declared.run.RunQuestion.{RunQuestion}
 use Rattle.ptk_main_answers.specs.declared.run.TheConstants.{HALT_STRIDE, WATCH_STRIDE}
@@ -37,18 +37,18 @@ way_begins until_halted last w begun = record {
   first = λ asked k before halted. absurd (omega (arith, before, begun));
 }
 
-look_on : (tick stride n : ℕ) → IsLook tick → stride ≡ n * HALT_STRIDE → IsLook (tick + stride)
+look_on : (tick stride n : ℕ) → IsHaltLook tick → stride ≡ n * HALT_STRIDE → IsHaltLook (tick + stride)
 look_on tick stride n at is = (at.0 + n, omega (arith, at.1, is))
 
 -- a multiple before the next one is before this one, or is this one
-this_or_before : (tick k : ℕ) → IsLook tick → k * HALT_STRIDE < tick + HALT_STRIDE → (k * HALT_STRIDE < tick) ⊎ (k * HALT_STRIDE ≡ tick)
+this_or_before : (tick k : ℕ) → IsHaltLook tick → k * HALT_STRIDE < tick + HALT_STRIDE → (k * HALT_STRIDE < tick) ⊎ (k * HALT_STRIDE ≡ tick)
 this_or_before tick k at before = elim (cases_order k at.0) [
   | inl same ↦ inr (ap (λ (n : ℕ). n * HALT_STRIDE) same ∙ sym at.1)
   | inr order ↦ elim order [ inl earlier ↦ inl (omega (arith, earlier, at.1)) | inr later ↦ absurd (omega (arith, later, before, at.1)) ]
 ]
 
 -- where not every partition has halted, that is so up to the next multiple
-none_before : (start old new : World) → IsLook old.tick → ((k : ℕ) → k * HALT_STRIDE < old.tick → ¬ AreHalted (at_tick (k * HALT_STRIDE) old)) → ¬ AreHalted old → old ≡ at_tick old.tick start
+none_before : (start old new : World) → IsHaltLook old.tick → ((k : ℕ) → k * HALT_STRIDE < old.tick → ¬ AreHalted (at_tick (k * HALT_STRIDE) old)) → ¬ AreHalted old → old ≡ at_tick old.tick start
     → new ≡ at_tick new.tick old → new.tick ≤ old.tick + HALT_STRIDE → (k : ℕ) → k * HALT_STRIDE < new.tick → ¬ AreHalted (at_tick (k * HALT_STRIDE) new)
 none_before start old new at before here is run far k under halted =
     let there : AreHalted (at_tick (k * HALT_STRIDE) old) = subst AreHalted (ap (at_tick (k * HALT_STRIDE)) run) halted in
@@ -66,7 +66,7 @@ way_on true last stride start old new way early going is run reached one =
       within = omega (arith, reached);
       look = λ short.
           let to : old.tick + stride ≡ new.tick = omega (arith, short, reached) in
-          subst IsLook to (look_on old.tick stride 1 (way.look early) (omega (arith, far)));
+          subst IsHaltLook to (look_on old.tick stride 1 (way.look early) (omega (arith, far)));
       first = λ asked. none_before start old new (way.look early) (way.first asked) (λ halted. going (asked, halted)) is run (omega (arith, reached, far));
     }
 way_on false last stride start old new way early going is run reached one =
@@ -75,7 +75,7 @@ way_on false last stride start old new way early going is run reached one =
       within = omega (arith, reached);
       look = λ short.
           let to : old.tick + stride ≡ new.tick = omega (arith, short, reached) in
-          subst IsLook to (look_on old.tick stride 1024 (way.look early) (omega (arith, far)));
+          subst IsHaltLook to (look_on old.tick stride 1024 (way.look early) (omega (arith, far)));
       first = λ asked k under halted. absurd (clash false asked refl);
     }
 

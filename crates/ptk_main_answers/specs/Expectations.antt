@@ -58,13 +58,13 @@ IsNoFailure kinds world = (q : ℕ) → q < length world.config.sections → fai
 -- ---- a run against what is asked of it
 
 -- a tick at which a run may end on request: a multiple of HALT_STRIDE (own)
-abbrev pub IsLook : ℕ → Type 0
-IsLook tick = (k : ℕ) × (tick ≡ k * HALT_STRIDE)
+abbrev pub IsHaltLook : ℕ → Type 0
+IsHaltLook tick = (k : ℕ) × (tick ≡ k * HALT_STRIDE)
 
 -- a run to a last tick has come to this system: to a multiple of HALT_STRIDE, or to the last tick; on request at no multiple before it every partition has halted (own)
 pub record IsOnWay (until_halted : Bool) (last : ℕ) (world : World) : Type 0 where
   pub within : world.tick ≤ last
-  pub look : world.tick < last → IsLook world.tick
+  pub look : world.tick < last → IsHaltLook world.tick
   pub first : IsTrue until_halted → (k : ℕ) → k * HALT_STRIDE < world.tick → ¬ AreHalted (at_tick (k * HALT_STRIDE) world)
 
 -- it ends there: at the last tick, or on request where every partition has halted, which is the first such multiple (own)
