@@ -15,7 +15,7 @@ abbrev pub IsSaid : Form → List (ℕ × List ℕ) → World → ℕ → List H
 IsSaid form.Lines symbols world p histories text = AreLines symbols world p histories text
 IsSaid form.Json symbols world p histories text = IsDocument symbols world p histories text
 
--- over the first ticks of a run, this many, each history is what is seen of the thread of its number, and where there is a tick says since when it does what it does (own)
+-- after this many ticks of a run each history is what was seen of the thread of its number; where the run begins at tick 0 and makes a tick, it says since when the thread does what it does (own)
 pub record AreOfRun (world : World) (ticks p : ℕ) (histories : List History) : Type 0 where
   pub since : world.tick ≡ 0 → 0 < ticks → AreSince (activity_eq.ghosts).eq world p ticks histories
   pub seen : AreSeenTo (activity_eq.ghosts).eq world p ticks histories

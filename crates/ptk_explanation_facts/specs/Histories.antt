@@ -61,7 +61,7 @@ abbrev pub AreOver : (Activity → Activity → Bool) → World → ℕ → List
 AreOver is_same world p looks histories =
     (place : ℕ) (default : History) → place < length histories → place < THREAD_LIMIT → slice_index_or histories place default ≡ history_over is_same world p (place + 1) looks
 
--- the histories are what is seen at some ticks of the run to a tick: at none where it makes none (own)
+-- the histories are what is seen at some ticks of the run to a tick, perhaps at none (own)
 abbrev pub AreSeenTo : (Activity → Activity → Bool) → World → ℕ → Tick → List History → Type 0
 AreSeenTo is_same world p to histories = (looks : List Tick) × AreLooks world.tick to looks × AreOver is_same world p looks histories
 

@@ -61,7 +61,7 @@ IsNoFailure kinds world = (q : ℕ) → q < length world.config.sections → fai
 abbrev pub IsHaltLook : ℕ → Type 0
 IsHaltLook tick = (k : ℕ) × (tick ≡ k * HALT_STRIDE)
 
--- a run to a last tick has come to this system: to a multiple of HALT_STRIDE, or to the last tick; on request at no multiple before it every partition has halted (own)
+-- a run to a last tick has come to this system: to a multiple of HALT_STRIDE, or to the last tick; on request there is no multiple before it at which every partition has halted (own)
 pub record IsOnWay (until_halted : Bool) (last : ℕ) (world : World) : Type 0 where
   pub within : world.tick ≤ last
   pub look : world.tick < last → IsHaltLook world.tick
