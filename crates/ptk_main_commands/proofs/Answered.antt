@@ -4,7 +4,7 @@ use Rattle.std.specs.Borrow.{Bor}
 use Rattle.std.specs.Prelude.{IfErr, MatchResult, OnOk, unwrap_or}
 use Rattle.ptk_symbols.specs.Tables.{table_of}
 use Rattle.ptk_config.specs.Configuration.{Configuration}
-use Rattle.ptk_timeline_formats.specs.Runs.{PutsDump, PutsTrace}
+use Rattle.ptk_timeline_formats.specs.Runs.{PutsDump, PutsEvents}
 use Rattle.ptk_statistics.specs.Answered.{PutsRun}
 use Rattle.ptk_statistics.specs.Tables.{PutsTables}
 use Rattle.ptk_statistics.specs.declared.answer.Form.{Form as Figures}
@@ -79,7 +79,7 @@ pub timeline_by : {T : Type 0} (options : TimelineOptions) (config : Configurati
     → AreImagesOf config.sections files → (options.symbols ≡ None → bytes ≡ []) → table_of bytes ≡ Ok symbols → from ≡ unwrap_or options.from 0 → to ≡ options.run.ticks
     → MatchResult outcome (λ _. picture_refusal options config files ≡ None) (IsFaultOf (picture_refusal options config files) (picture_refusal options config files))
     → OnOk outcome (options.format ≡ Svg → PutsPicture symbols config files from to old new) → OnOk outcome (options.format ≡ Vcd → PutsDump (world_at config files from) from to old new)
-    → OnOk outcome (options.format ≡ Json → PutsTrace symbols (world_at config files from) from to old new)
+    → OnOk outcome (options.format ≡ Json → PutsEvents symbols (world_at config files from) from to old new)
     → OnOk outcome (WithImages config.sections (IsTimelineOf options config old new))
 timeline_by options config (Ok u) files from to bytes symbols old new images unnamed table begins ends is drawn dumped noted = (
   files,
@@ -92,8 +92,8 @@ timeline_by options config (Ok u) files from to bytes symbols old new images unn
         (subst (λ (f : ℕ). PutsPicture symbols config files f to old new) begins (drawn svg));
     dumped = λ vcd. subst (λ (t : ℕ). PutsDump (world_at config files (unwrap_or options.from 0)) (unwrap_or options.from 0) t old new) ends
         (subst (λ (f : ℕ). PutsDump (world_at config files f) f to old new) begins (dumped vcd));
-    noted = λ json. subst (λ (t : ℕ). PutsTrace symbols (world_at config files (unwrap_or options.from 0)) (unwrap_or options.from 0) t old new) ends
-        (subst (λ (f : ℕ). PutsTrace symbols (world_at config files f) f to old new) begins (noted json));
+    noted = λ json. subst (λ (t : ℕ). PutsEvents symbols (world_at config files (unwrap_or options.from 0)) (unwrap_or options.from 0) t old new) ends
+        (subst (λ (f : ℕ). PutsEvents symbols (world_at config files f) f to old new) begins (noted json));
   },
 )
 timeline_by options config (Err fault) files from to bytes symbols old new images unnamed table begins ends is drawn dumped noted = tt

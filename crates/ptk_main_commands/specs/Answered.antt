@@ -8,7 +8,7 @@ use Rattle.ptk_config.specs.Configuration.{Configuration}
 use Rattle.ptk_timeline.specs.Starts.{routine_of, seen_to}
 use Rattle.ptk_timeline.below.ptk_timeline_starts.specs.declared.starts.Names.{Names}
 use Rattle.ptk_timeline.specs.Picture.{IsPictureOf}
-use Rattle.ptk_timeline_formats.specs.Runs.{PutsDump, PutsTrace}
+use Rattle.ptk_timeline_formats.specs.Runs.{PutsDump, PutsEvents}
 use Rattle.ptk_statistics.specs.Answered.{PutsRun}
 use Rattle.ptk_statistics.specs.Tables.{PutsTables}
 use Rattle.ptk_statistics.specs.declared.answer.Form.{Form as Figures}
@@ -89,4 +89,4 @@ pub record IsTimelineOf (options : TimelineOptions) (config : Configuration) (ol
   pub named : AreSymbolsOf options.symbols symbols
   pub drawn : options.format ≡ Svg → PutsPicture symbols config files (unwrap_or options.from 0) options.run.ticks old new
   pub dumped : options.format ≡ Vcd → PutsDump (world_at config files (unwrap_or options.from 0)) (unwrap_or options.from 0) options.run.ticks old new
-  pub noted : options.format ≡ Json → PutsTrace symbols (world_at config files (unwrap_or options.from 0)) (unwrap_or options.from 0) options.run.ticks old new
+  pub noted : options.format ≡ Json → PutsEvents symbols (world_at config files (unwrap_or options.from 0)) (unwrap_or options.from 0) options.run.ticks old new

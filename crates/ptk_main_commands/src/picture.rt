@@ -7,7 +7,7 @@ ghost use Rattle.ptk_timeline.specs.Starts.{start_of};
 ghost use Rattle.ptk_timeline_formats.specs.Missing.{first_missing};
 ghost use Rattle.ptk_timeline_formats.specs.declared.fault.FormatFault.TheVariants.{FromPastEnd};
 ghost use Rattle.ptk_timeline_formats.specs.Faults.{missing_in_format};
-ghost use Rattle.ptk_timeline_formats.specs.Runs.{PutsDump, PutsTrace};
+ghost use Rattle.ptk_timeline_formats.specs.Runs.{PutsDump, PutsEvents};
 ghost use Rattle.ptk_main_faults.specs.HostFaults.{IsHostFault};
 ghost use Rattle.ptk_main_files.specs.Outcomes.{WithImages};
 ghost use Rattle.ptk_main_files.specs.Refusals.{IsFaultOf, refused_picture};
@@ -91,7 +91,7 @@ pub fn timeline_answer<'a, W: Write>(
     ensures dumped { OnOk result (format ≡ PictureFormat.Vcd →
         PutsDump (world_at config.now files.now from) from to (W.contents out.old) (W.contents out.new)) }
     ensures noted { OnOk result (format ≡ PictureFormat.Json →
-        PutsTrace symbols.now (world_at config.now files.now from) from to (W.contents out.old) (W.contents out.new)) }
+        PutsEvents symbols.now (world_at config.now files.now from) from to (W.contents out.old) (W.contents out.new)) }
     ensures silent { IfErr result (λ fault. ¬ IsHostFault fault → out.new ≡ out.old) }
 {
     match put_picture(alloc, config, files, symbols, format, from, to, out) {
@@ -126,7 +126,7 @@ fn put_picture<W: Write>(
     ensures dumped { OnOk result (format ≡ PictureFormat.Vcd →
         PutsDump (world_at config.now files.now from) from to (W.contents out.old) (W.contents out.new)) }
     ensures noted { OnOk result (format ≡ PictureFormat.Json →
-        PutsTrace symbols.now (world_at config.now files.now from) from to (W.contents out.old) (W.contents out.new)) }
+        PutsEvents symbols.now (world_at config.now files.now from) from to (W.contents out.old) (W.contents out.new)) }
     ensures silent { IfErr result (λ fault. fault ≢ FormatFault.Write → fault ≢ FormatFault.Memory → out.new ≡ out.old) }
 {
     match format {

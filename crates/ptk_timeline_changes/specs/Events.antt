@@ -1,4 +1,4 @@
--- The events of a trace, each a JSON object behind the ones before (Trace Event Format).
+-- Trace events, each a JSON object behind the ones before (Trace Event Format).
 use Rattle.std.specs.Prelude.{ℕ, ◌+◌, ◌-◌, List, [], ◌∷◌, ◌++◌, Bool, true, not, nat_lt, nat_le, ◌&&◌, ◌==◌, if◌then◌else◌, Option, Some, None, option_and_then, flat_map, codes, decimal}
 use Rattle.std.specs.List.{concat, enumerate_from}
 use Rattle.json.specs.Print.{quoted}
@@ -220,7 +220,7 @@ change_events symbols p tick (Woken by t) = flow_text p by t tick
 change_events symbols p tick (Lost ticks) = instant_text p tick (codes "ticks lost") (codes "ticks") ticks
 change_events symbols p tick (Dropped bytes) = instant_text p tick (codes "input lost") (codes "bytes") bytes
 
--- ---- the head of a trace
+-- ---- the head of trace events
 
 -- an instant at a tick at which this many bytes of input come, if it is one from a tick on and before another (own)
 abbrev pub arrival_text : ℕ → ℕ → ℕ → ℕ → ℕ → List ℕ

@@ -14,7 +14,7 @@ use Rattle.ptk_timeline_formats.specs.declared.sheet.Form.{Form}
 use Rattle.ptk_timeline_formats.specs.declared.sheet.Form.TheVariants.{Vcd, Events}
 use Rattle.ptk_timeline_formats.specs.declared.view.PartView.{PartView}
 use Rattle.ptk_timeline_formats.specs.Holders.{closing_events, closing_lines, opening_events, opening_lines}
-use Rattle.ptk_timeline_formats.specs.Outputs.{Dump, Output, Trace, closing_text, first_look, form_of, look_text, lost_text, opening_text, output_of, rest_events, same_doing, same_runner, same_status, same_thread}
+use Rattle.ptk_timeline_formats.specs.Outputs.{Dump, EventList, Output, closing_text, first_look, form_of, look_text, lost_text, opening_text, output_of, rest_events, same_doing, same_runner, same_status, same_thread}
 use Rattle.ptk_timeline_formats.specs.Texts.{first_text, part_text}
 use Rattle.ptk_timeline_formats.specs.Traces.{decision_events, first_events, last_events}
 
@@ -25,13 +25,13 @@ ok_always (Err e) p = tt
 
 -- what holds in either format
 pub either : (form : Form) (P : Type 0) → (form ≡ Vcd → P) → (form ≡ Events → P) → P
-either Vcd P of_dump of_trace = of_dump refl
-either Events P of_dump of_trace = of_trace refl
+either Vcd P of_dump of_events = of_dump refl
+either Events P of_dump of_events = of_events refl
 
--- what holds of a dump in the one format, and of a trace in the other
-pub by_form : (form : Form) (symbols : List (ℕ × List ℕ)) (P : Output → Type 0) → (form ≡ Vcd → P Dump) → (form ≡ Events → P (Trace symbols)) → P (output_of form symbols)
-by_form Vcd symbols P of_dump of_trace = of_dump refl
-by_form Events symbols P of_dump of_trace = of_trace refl
+-- what holds of a dump in the one format, and of trace events in the other
+pub by_form : (form : Form) (symbols : List (ℕ × List ℕ)) (P : Output → Type 0) → (form ≡ Vcd → P Dump) → (form ≡ Events → P (EventList symbols)) → P (output_of form symbols)
+by_form Vcd symbols P of_dump of_events = of_dump refl
+by_form Events symbols P of_dump of_events = of_events refl
 
 -- the format of what is written in a format
 pub form_kept : (form : Form) (symbols : List (ℕ × List ℕ)) → form_of (output_of form symbols) ≡ form
@@ -67,7 +67,7 @@ first_written form seen symbols own world p at tick view now new is same there d
     (λ traced. subst (λ (names : List (ℕ × List ℕ)). Appends now new (first_events names (state_of world p).part p tick view)) same
     (subst (λ (t : ℕ). Appends now new (first_events own (state_of world p).part p t view)) there (events (is ∙ traced))))
 
--- the rest of a trace: the window that is open, and behind it the threads
+-- the rest of trace events: the window that is open, and behind it the threads
 pub rest_written : (symbols : List (ℕ × List ℕ)) (board closed : Board) (last to : ℕ) (old middle new : Option (List ℕ)) → closed ≡ record board { holder = None } → last ≡ to
     → Appends old middle (closing_events symbols last board.holder)
     → Appends middle new (each_text (λ (p : ℕ) (view : PartView). last_events p last view) 0 (take PARTS closed.views.items)) → Appends old new (rest_events symbols to board)

@@ -1,4 +1,4 @@
--- What a trace has of a partition, part by part.
+-- What trace events have of a partition, part by part.
 use Rattle.std.proofs.Common.{◌≡◌, ◌∙◌, ◌-◌, ◌≤◌, ℕ, Bool, List, [], ◌∷◌, ◌++◌, Option, Some, flat_map, take, ap, ap₂, subst, append-nil, arith}
 use Rattle.std.specs.Prelude.{if◌then◌else◌, nat_lt}
 use Rattle.std.specs.Bool.{then_some}

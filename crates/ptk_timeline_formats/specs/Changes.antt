@@ -1,4 +1,4 @@
--- What a dump and a trace have of changes, one after another.
+-- What a dump and trace events have of changes, one after another.
 use Rattle.std.specs.Prelude.{ℕ, nat_lt, List, [], ◌∷◌, ◌++◌, if◌then◌else◌, Option, Some, None, flat_map, codes, decimal}
 use Rattle.std.specs.List.{concat}
 use Rattle.ptk_words.specs.Names.{newline}
@@ -51,7 +51,7 @@ abbrev pub tick_behind_all : ℕ → ℕ → List (Option Change) → ℕ
 tick_behind_all at tick [] = at
 tick_behind_all at tick (change ∷ rest) = tick_behind_all (tick_behind_if at tick change) tick rest
 
--- ---- a trace
+-- ---- trace events
 
 -- the events of a change; none where there is no change (own)
 abbrev pub events_if : List (ℕ × List ℕ) → ℕ → ℕ → Option Change → List ℕ

@@ -1,4 +1,4 @@
--- Whose window it is, and what a dump and a trace have of it.
+-- Whose window it is, and what a dump and trace events have of it.
 use Rattle.std.specs.Prelude.{ℕ, min, List, [], ◌++◌, Bool, false, ◌==◌, if◌then◌else◌, Option, Some, None}
 use Rattle.ptk_timeline_changes.specs.declared.change.Change.TheVariants.{WindowBegins, WindowEnds}
 use Rattle.ptk_timeline_changes.specs.Events.{change_events}
@@ -36,14 +36,14 @@ opening_lines at tick p holder =
 abbrev pub tick_behind_opening : ℕ → ℕ → ℕ → Option Holder → ℕ
 tick_behind_opening at tick p holder = if is_open p holder then at else tick
 
--- ---- a trace
+-- ---- trace events
 
--- what a trace has of the end of the window that is open: its slice (own)
+-- what trace events have of the end of the window that is open: its slice (own)
 abbrev pub closing_events : List (ℕ × List ℕ) → ℕ → Option Holder → List ℕ
 closing_events symbols tick None = []
 closing_events symbols tick (Some holder) = change_events symbols holder.partition tick (WindowEnds holder.since)
 
--- what a trace has of the begin of a window of a partition: the slice of the one that was open (own)
+-- what trace events have of the begin of a window of a partition: the slice of the one that was open (own)
 abbrev pub opening_events : List (ℕ × List ℕ) → ℕ → ℕ → Option Holder → List ℕ
 opening_events symbols tick p holder = if is_open p holder then [] else closing_events symbols tick holder
 

@@ -1,4 +1,4 @@
--- A run from change to change, as a Value Change Dump and a trace have it.
+-- A run from change to change, as a Value Change Dump and trace events have it.
 use Rattle.std.specs.Prelude.{◌≡◌, ◌≢◌, ℕ, ◌+◌, ◌<◌, ◌≤◌, ◌⊎◌, min, max, nat_lt, ◌&&◌, Bool, List, [], ◌++◌, Option, Some, None, MatchBool, MatchOption, length, slice_index_or, vec_len}
 use Rattle.std.specs.Io.KnownBytes.{Appends}
 use Rattle.ptk_words.specs.declared.TheConstants.{THREAD_LIMIT}
@@ -15,7 +15,7 @@ use Rattle.ptk_timeline_formats.specs.declared.sheet.Form.TheVariants.{Vcd}
 use Rattle.ptk_timeline_formats.specs.declared.view.PartView.{PartView}
 use Rattle.ptk_timeline_formats.specs.Changes.{text_behind_first}
 use Rattle.ptk_timeline_formats.specs.Holders.{opened, tick_behind_closing, tick_behind_opening}
-use Rattle.ptk_timeline_formats.specs.Outputs.{Dump, Output, Trace, closing_text, first_look, form_of, look_text, lost_text, opening_text, run_end, run_head, same_runner, same_status, same_thread}
+use Rattle.ptk_timeline_formats.specs.Outputs.{Dump, EventList, Output, closing_text, first_look, form_of, look_text, lost_text, opening_text, run_end, run_head, same_runner, same_status, same_thread}
 use Rattle.ptk_timeline_formats.specs.Texts.{part_behind}
 use Rattle.ptk_timeline_formats.specs.Views.{AreShown, kept_in, runner_shown, status_shown}
 
@@ -197,6 +197,6 @@ PutsRun output world from to old new = (text : List ℕ) × Appends old new text
 abbrev pub PutsDump : World → ℕ → ℕ → Option (List ℕ) → Option (List ℕ) → Type 0
 PutsDump world from to old new = PutsRun Dump world from to old new
 
--- or as a trace, with the names of these symbols (Trace Event Format)
-abbrev pub PutsTrace : List (ℕ × List ℕ) → World → ℕ → ℕ → Option (List ℕ) → Option (List ℕ) → Type 0
-PutsTrace symbols world from to old new = PutsRun (Trace symbols) world from to old new
+-- or as trace events, with the names of these symbols (Trace Event Format)
+abbrev pub PutsEvents : List (ℕ × List ℕ) → World → ℕ → ℕ → Option (List ℕ) → Option (List ℕ) → Type 0
+PutsEvents symbols world from to old new = PutsRun (EventList symbols) world from to old new

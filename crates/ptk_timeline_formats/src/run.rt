@@ -9,7 +9,7 @@ ghost use Rattle.ptk_timeline_formats.specs.declared.fault.FormatFault.TheVarian
 ghost use Rattle.ptk_timeline_formats.specs.declared.sheet.Form.TheVariants.{Vcd, Events};
 ghost use Rattle.ptk_timeline_formats.specs.Faults.{missing_in_format};
 ghost use Rattle.ptk_timeline_formats.specs.Outputs.{last_line, output_of, rest_events};
-ghost use Rattle.ptk_timeline_formats.specs.Runs.{IsRun, PutsDump, PutsTrace};
+ghost use Rattle.ptk_timeline_formats.specs.Runs.{IsRun, PutsDump, PutsEvents};
 
 use crate::board::Board;
 use crate::fault::FormatFault;
@@ -47,7 +47,7 @@ pub fn dump_with<W: Write>(
         (λ fault. fault ≢ FromPastEnd → first_missing files.now config.now.sections ≡ missing_in_format fault) }
     ensures silent { IfErr result (λ fault. fault ≢ FormatFault.Write → fault ≢ FormatFault.Memory → out.new ≡ out.old) }
     ensures dump { form ≡ Vcd → OnOk result (PutsDump (world_at config.now files.now from) from ticks (W.contents out.old) (W.contents out.new)) }
-    ensures events { form ≡ Events → OnOk result (PutsTrace symbols.now (world_at config.now files.now from) from ticks (W.contents out.old) (W.contents out.new)) }
+    ensures events { form ≡ Events → OnOk result (PutsEvents symbols.now (world_at config.now files.now from) from ticks (W.contents out.old) (W.contents out.new)) }
 {
     if ticks.ticks() <= from.ticks() {
         return Err(FormatFault::FromPastEnd);

@@ -2,7 +2,7 @@
 
 ghost use Rattle.std.specs.Prelude.{◌≡◌, ◌+◌, ◌<◌, ◌≤◌, None, All, IfOk, OnOk, if◌then◌else◌, length, min, take, vec_len};
 ghost use Rattle.std.specs.Io.KnownBytes.{Appends};
-ghost use Rattle.ptk_words.specs.declared.TheConstants.{LAST_TICK, THREAD_LIMIT};
+ghost use Rattle.ptk_words.specs.declared.TheConstants.{THREAD_LIMIT};
 ghost use Rattle.ptk_timeline_changes.specs.Told.{pc_in};
 ghost use Rattle.ptk_timeline_changes.specs.World.{state_of};
 ghost use Rattle.ptk_timeline_changes.specs.Shown.{is_step_of, shown_in};

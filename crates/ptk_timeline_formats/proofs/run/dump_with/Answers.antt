@@ -1,7 +1,7 @@
 use Rattle.std.proofs.Common.{◌≡◌, ◌∙◌, ap₂, arith}
 use Rattle.ptk_timeline_changes.specs.World.{world_at}
 use Rattle.ptk_timeline_formats.specs.declared.sheet.Form.TheVariants.{Vcd, Events}
-use Rattle.ptk_timeline_formats.specs.Outputs.{Dump, Trace, output_of}
+use Rattle.ptk_timeline_formats.specs.Outputs.{Dump, EventList, output_of}
 use Rattle.ptk_timeline_formats.proofs.Wholes.{run_by}
 use Rattle.ptk_timeline_formats.proofs.run.dump_with.Goals as goal
 
@@ -27,6 +27,6 @@ returns-in-Ok-clause-events g c = λ traced.
     let to : c.new-sheet.result.to ≡ c.args.ticks = omega arith in (
       run.0,
       run.1,
-      run_by (Trace c.args.symbols.now) (output_of sheet.form sheet.symbols.now) c.args.config.now c.in_ok-system.system (world_at c.args.config.now c.args.files.now c.args.from) sheet.at c.args.from
+      run_by (EventList c.args.symbols.now) (output_of sheet.form sheet.symbols.now) c.args.config.now c.in_ok-system.system (world_at c.args.config.now c.args.files.now c.args.from) sheet.at c.args.from
           sheet.to c.args.ticks run.0 same c.in_ok-system.ensures.reached from to run.2,
     )
