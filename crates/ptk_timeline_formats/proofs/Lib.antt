@@ -2,6 +2,7 @@ pub mod Lists
 pub mod Lines
 pub mod Texts
 pub mod Values
+pub mod Since
 pub mod Traces
 pub mod Holding
 pub mod Reached

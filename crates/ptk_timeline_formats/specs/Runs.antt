@@ -1,5 +1,5 @@
 -- A run from change to change, as a Value Change Dump and trace events have it.
-use Rattle.std.specs.Prelude.{◌≡◌, ◌≢◌, ℕ, ◌+◌, ◌<◌, ◌≤◌, ◌⊎◌, min, max, nat_lt, ◌&&◌, Bool, List, [], ◌++◌, Option, Some, None, MatchBool, MatchOption, length, slice_index_or, vec_len}
+use Rattle.std.specs.Prelude.{◌≡◌, ◌≢◌, ℕ, ◌+◌, ◌<◌, ◌≤◌, ◌⊎◌, min, max, nat_lt, ◌&&◌, All, Bool, List, [], ◌++◌, Option, Some, None, MatchBool, MatchOption, length, slice_index_or, vec_len}
 use Rattle.std.specs.Io.KnownBytes.{Appends}
 use Rattle.ptk_words.specs.declared.TheConstants.{THREAD_LIMIT}
 use Rattle.ptk_words_windows.specs.Windows.{IsFirstOwn, IsOwn, IsOwnUntil, WindowPlan}
@@ -7,6 +7,7 @@ use Rattle.ptk_words_model.specs.State.{Part, State}
 use Rattle.ptk_config.specs.Configuration.{Configuration}
 use Rattle.ptk_timeline_changes.specs.Going.{GoesOnAsIs}
 use Rattle.ptk_timeline_changes.specs.World.{World, at_tick, but_next, section_at, state_of}
+use Rattle.ptk_timeline_changes.specs.declared.change.ShownSince.{ShownSince}
 use Rattle.ptk_timeline_changes.specs.declared.step.Step.{Step}
 use Rattle.ptk_timeline_changes.specs.Dumps.{each_text}
 use Rattle.ptk_timeline_changes.specs.Steps.{is_step_over, step_since, step_within, tick_behind_step}
@@ -17,15 +18,16 @@ use Rattle.ptk_timeline_formats.specs.Changes.{text_behind_first}
 use Rattle.ptk_timeline_formats.specs.Holders.{opened, tick_behind_closing, tick_behind_opening}
 use Rattle.ptk_timeline_formats.specs.Outputs.{Dump, EventList, Output, closing_text, first_look, form_of, look_text, lost_text, opening_text, run_end, run_head, same_runner, same_status, same_thread}
 use Rattle.ptk_timeline_formats.specs.Texts.{part_behind}
-use Rattle.ptk_timeline_formats.specs.Views.{AreShown, kept_in, runner_shown, status_shown}
+use Rattle.ptk_timeline_formats.specs.Views.{AreKeptSince, AreShown, kept_in, runner_shown, status_shown}
 
 -- ---- what is shown of a partition goes on
 
--- what is shown of a partition goes from one view to another at a tick, while a step takes up its ticks: all that is not as before is written (own)
+-- what is shown of a partition goes from one view to another at a tick, while a step takes up its ticks: all that is not as before is written, and each thread is kept as it is shown, and since when it is (own)
 pub record IsLook (output : Output) (p : ℕ) (step : Option Step) (s : Part) (tick at reached : ℕ) (before after : PartView) (lines : List ℕ) : Type 0 where
   pub written : lines ≡ look_text output step s at tick p before
   pub last : form_of output ≡ Vcd → reached ≡ part_behind same_status same_runner same_thread step s at tick before
   pub threads : AreShown step s after.threads.items
+  pub since : AreKeptSince same_thread tick before.threads.items after.threads.items
   pub count : vec_len after.threads ≡ vec_len before.threads
 
 -- the view, with a status, a running thread and these threads shown while a step takes up its ticks
@@ -98,10 +100,11 @@ pub record IsWindow (output : Output) (p from end : ℕ) (world later : World) (
 
 -- ---- all partitions
 
--- what is shown of a partition at the first tick: its status, its running thread and the threads that its section allows, at most 32, and no step (own)
+-- what is shown of a partition at the first tick: its status, its running thread and the threads that its section allows, at most 32, each since that tick, and no step (own)
 pub record IsFirstView (world : World) (p : ℕ) (view : PartView) : Type 0 where
   pub kept : view ≡ kept_in None (state_of world p) view
   pub threads : AreShown None (state_of world p).part view.threads.items
+  pub since : All (λ (thread : ShownSince). thread.since ≡ world.tick) view.threads.items
   pub count : vec_len view.threads ≡ min (section_at world.config p).limits.threads THREAD_LIMIT
 
 -- so of each partition of a system, in their order (own)

@@ -1,5 +1,5 @@
 -- What a partition is shown as, and what is kept of it.
-use Rattle.std.specs.Prelude.{◌≡◌, ℕ, ◌+◌, ◌<◌, ◌==◌, List, Option, Some, None, if◌then◌else◌, length, slice_index_or}
+use Rattle.std.specs.Prelude.{◌≡◌, ℕ, ◌+◌, ◌<◌, ◌==◌, List, Bool, Option, Some, None, if◌then◌else◌, length, slice_index_or}
 use Rattle.ptk_words.specs.Names.{ThreadNumber}
 use Rattle.ptk_words.specs.declared.TheConstants.{THREAD_LIMIT}
 use Rattle.ptk_words_model.specs.State.{Part, State}
@@ -7,6 +7,7 @@ use Rattle.ptk_timeline_changes.specs.PartStatus.{PartStatus}
 use Rattle.ptk_timeline_changes.specs.Told.{pc_in, status_in}
 use Rattle.ptk_timeline_changes.specs.PartStatus.TheVariants as status
 use Rattle.ptk_timeline_changes.specs.declared.change.ShownSince.{ShownSince}
+use Rattle.ptk_timeline_changes.specs.declared.shown.Shown.{Shown}
 use Rattle.ptk_timeline_changes.specs.declared.step.Step.{Step}
 use Rattle.ptk_timeline_changes.specs.Shown.{is_step_of, shown_in}
 use Rattle.ptk_timeline_formats.specs.declared.view.PartView.{PartView}
@@ -15,6 +16,15 @@ use Rattle.ptk_timeline_formats.specs.declared.view.PartView.{PartView}
 abbrev pub AreShown : Option Step → Part → List ShownSince → Type 0
 AreShown step s threads = (place : ℕ) (default : ShownSince) → place < length threads → place < THREAD_LIMIT
     → (slice_index_or threads place default).shown ≡ shown_in (is_step_of step (place + 1)) (place + 1) s
+
+-- since when a thread is shown so at a tick of which this was kept: since the tick where it is shown otherwise than before, else since when it was (own)
+abbrev pub since_when : (Shown → Shown → Bool) → ℕ → ShownSince → Shown → ℕ
+since_when same tick kept shown = if same shown kept.shown then kept.since else tick
+
+-- so each thread is kept at a tick, by what was kept of the threads before it and what is kept behind it (own)
+abbrev pub AreKeptSince : (Shown → Shown → Bool) → ℕ → List ShownSince → List ShownSince → Type 0
+AreKeptSince same tick before after = (place : ℕ) (default : ShownSince) → place < length before → place < THREAD_LIMIT
+    → (slice_index_or after place default).since ≡ since_when same tick (slice_index_or before place default) (slice_index_or after place default).shown
 
 -- the status that is shown of a partition: running while a step takes up its ticks, else its own (own)
 abbrev pub status_shown : Option Step → Part → PartStatus

@@ -3,7 +3,9 @@
 //! A run as a Value Change Dump and as trace events in JSON (`dump_with`, by its `Form`), written while it goes on.
 //!
 //! - What is kept of each thread at a change is what the system shows of it (`shown` of `show_threads`: `AreShown`,
-//!   `shown_in`); ticks never fall (`from`, `within` of `Sheet::put`).
+//!   `shown_in`), and since when: since the change at which it is shown otherwise than before, at first since the first
+//!   tick (`since` of `first_threads` and `show_threads`: `AreKeptSince`, `since_when`). So a thread's slice has the
+//!   ticks over which it is shown so. Ticks never fall (`from`, `within` of `Sheet::put`).
 //! - The status and the running thread that are shown of a partition are the system's; while a step takes up its ticks
 //!   the partition is running, with the step's thread (`kept` of `PartView::new`, `show` and `settle`: `status_shown`,
 //!   `runner_shown`). Behind a decision the step, and the counts of steps, of lost ticks and of lost input, are the

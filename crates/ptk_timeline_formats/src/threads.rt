@@ -10,7 +10,7 @@ ghost use Rattle.ptk_timeline_formats.specs.declared.sheet.Form.TheVariants.{Vcd
 ghost use Rattle.ptk_timeline_formats.specs.Changes.{lines_at};
 ghost use Rattle.ptk_timeline_formats.specs.Texts.{shown_lines, thread_text, threads_behind, threads_text};
 ghost use Rattle.ptk_timeline_formats.specs.Traces.{ends_by_itself, has_come, is_woken, shown_events, thread_events, threads_events, waker_of, waking_text};
-ghost use Rattle.ptk_timeline_formats.specs.Views.{AreShown};
+ghost use Rattle.ptk_timeline_formats.specs.Views.{AreKeptSince, AreShown, since_when};
 
 use crate::sheet::Sheet;
 use ptk_timeline_changes::{Change, Doing, PutFault, Shown, ShownSince, Step, System};
@@ -61,6 +61,7 @@ pub(crate) fn show_threads<W: Write>(
         threads_behind ⟦<Shown as PartialEq>⟧.eq (λ t. shown_in (is_step_of step.now t) t (state_of system.now p).part)
         sheet.old.at tick 1 (take THREAD_LIMIT threads.old)) }
     ensures shown { OnOk result (AreShown step.now (state_of system.now p).part threads.new) }
+    ensures since { OnOk result (AreKeptSince ⟦<Shown as PartialEq>⟧.eq tick threads.old threads.new) }
     ensures dump { sheet.old.form ≡ Vcd → OnOk result (Appends (W.contents out.old) (W.contents out.new)
         (threads_text ⟦<Shown as PartialEq>⟧.eq (λ t. shown_in (is_step_of step.now t) t (state_of system.now p).part)
         sheet.old.at tick p 1 (take THREAD_LIMIT threads.old))) }
@@ -95,7 +96,7 @@ fn show_thread<W: Write>(
     ensures form { sheet.new.form ≡ sheet.old.form }
     ensures shown { IfOk result (λ kept. kept.shown ≡ shown_in (is_step_of step.now t) t (state_of system.now p).part) }
     ensures since { let after = shown_in (is_step_of step.now t) t (state_of system.now p).part in
-        IfOk result (λ thread. thread.since ≡ (if ⟦<Shown as PartialEq>⟧.eq after kept.now.shown then kept.now.since else tick)) }
+        IfOk result (λ thread. thread.since ≡ since_when ⟦<Shown as PartialEq>⟧.eq tick kept.now after) }
     ensures behind { let after = shown_in (is_step_of step.now t) t (state_of system.now p).part in
         sheet.old.form ≡ Vcd → sheet.new.at ≡ (if ⟦<Shown as PartialEq>⟧.eq after kept.now.shown then sheet.old.at else tick) }
     ensures dump { let after = shown_in (is_step_of step.now t) t (state_of system.now p).part in

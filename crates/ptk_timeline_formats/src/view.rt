@@ -1,6 +1,6 @@
 //! What is shown of a partition.
 
-ghost use Rattle.std.specs.Prelude.{◌≡◌, ℕ, ◌+◌, ◌<◌, ◌≤◌, ⊤, List, [], None, Some, IfOk, IfSome, MatchBool, MatchOption, OnOk, length, min, vec_len};
+ghost use Rattle.std.specs.Prelude.{◌≡◌, ℕ, ◌+◌, ◌<◌, ◌≤◌, ⊤, All, List, [], None, Some, IfOk, IfSome, MatchBool, MatchOption, OnOk, length, min, vec_len};
 ghost use Rattle.std.specs.Io.KnownBytes.{Appends};
 ghost use Rattle.ptk_words.specs.declared.TheConstants.{LAST_TICK, THREAD_LIMIT};
 ghost use Rattle.ptk_timeline_changes.specs.World.{at_tick, but_next, state_of};
@@ -10,7 +10,7 @@ ghost use Rattle.ptk_timeline_formats.specs.Outputs.{output_of};
 ghost use Rattle.ptk_timeline_formats.specs.Runs.{IsStretch, IsWindow};
 ghost use Rattle.ptk_timeline_formats.specs.Texts.{first_text, part_behind, part_text};
 ghost use Rattle.ptk_timeline_formats.specs.Traces.{decision_events, first_events, last_events, lost_events, part_events};
-ghost use Rattle.ptk_timeline_formats.specs.Views.{AreShown, kept_in, runner_shown, start_in, status_shown};
+ghost use Rattle.ptk_timeline_formats.specs.Views.{AreKeptSince, AreShown, kept_in, runner_shown, start_in, status_shown};
 
 use crate::sheet::Sheet;
 use crate::threads::{first_threads, show_threads};
@@ -44,6 +44,7 @@ impl PartView {
         requires { p < length system.now.config.sections }
         ensures kept { IfOk result (λ view. view ≡ kept_in None (state_of system.now p) view) }
         ensures shown { IfOk result (λ view. AreShown None (state_of system.now p).part view.threads.items) }
+        ensures since { IfOk result (λ view. All (λ thread. thread.since ≡ system.now.tick) view.threads.items) }
         ensures count { IfOk result (λ view. vec_len view.threads ≡ min threads THREAD_LIMIT) }
     {
         Ok(PartView {
@@ -209,6 +210,8 @@ impl PartView {
             ((self.new ≡ self.old) × (sheet.new ≡ sheet.old) × (out.new ≡ out.old)) }
         ensures shown { MatchBool (is_step_over due end self.old.step)
             (OnOk result (AreShown None (state_of system.now p).part self.new.threads.items)) ⊤ }
+        ensures since { MatchBool (is_step_over due end self.old.step)
+            (OnOk result (AreKeptSince ⟦<Shown as PartialEq>⟧.eq (tick_behind_step due self.old.step) self.old.threads.items self.new.threads.items)) ⊤ }
         ensures count { vec_len self.new.threads ≡ vec_len self.old.threads }
         ensures dump { sheet.old.form ≡ Vcd → MatchBool (is_step_over due end self.old.step)
             (OnOk result (Appends (W.contents out.old) (W.contents out.new)
@@ -255,6 +258,7 @@ impl PartView {
             kept_in (step_since self.old.steps tick end (state_of system.now p)) (state_of system.now p) self.new) }
         ensures shown { OnOk result (AreShown
             (step_since self.old.steps tick end (state_of system.now p)) (state_of system.now p).part self.new.threads.items) }
+        ensures since { OnOk result (AreKeptSince ⟦<Shown as PartialEq>⟧.eq tick self.old.threads.items self.new.threads.items) }
         ensures count { vec_len self.new.threads ≡ vec_len self.old.threads }
         ensures dump { sheet.old.form ≡ Vcd → OnOk result (Appends (W.contents out.old) (W.contents out.new)
             (part_text ⟦<PartStatus as PartialEq>⟧.eq ⟦<Option<ThreadNo> as PartialEq>⟧.eq ⟦<Shown as PartialEq>⟧.eq
@@ -306,6 +310,9 @@ impl PartView {
         ensures shown { let begin = tick_behind_step tick self.old.step in
             IfSome (step_within self.old.steps begin end (state_of system.now p))
             (λ step. OnOk result (AreShown (Some step) (state_of system.now p).part self.new.threads.items)) }
+        ensures since { let begin = tick_behind_step tick self.old.step in
+            IfSome (step_within self.old.steps begin end (state_of system.now p))
+            (λ _. OnOk result (AreKeptSince ⟦<Shown as PartialEq>⟧.eq begin self.old.threads.items self.new.threads.items)) }
         ensures count { vec_len self.new.threads ≡ vec_len self.old.threads }
         ensures dump { let begin = tick_behind_step tick self.old.step in
             sheet.old.form ≡ Vcd → IfSome (step_within self.old.steps begin end (state_of system.now p))
@@ -349,6 +356,7 @@ impl PartView {
         ensures step { self.new.step ≡ self.old.step }
         ensures kept { self.new ≡ record self.old { status = status_shown step.now (state_of system.now p).part; runner = runner_shown step.now (state_of system.now p).part; threads = self.new.threads } }
         ensures shown { OnOk result (AreShown step.now (state_of system.now p).part self.new.threads.items) }
+        ensures since { OnOk result (AreKeptSince ⟦<Shown as PartialEq>⟧.eq tick self.old.threads.items self.new.threads.items) }
         ensures count { vec_len self.new.threads ≡ vec_len self.old.threads }
         ensures form { sheet.new.form ≡ sheet.old.form }
         ensures reached { sheet.old.form ≡ Vcd → OnOk result (sheet.new.at ≡

@@ -11,7 +11,9 @@ use Rattle.ptk_timeline_changes.specs.Shown.{is_step_of, shown_in}
 use Rattle.ptk_timeline_changes.proofs.Written.{all_numbered, numbered_more}
 use Rattle.ptk_timeline_formats.specs.Texts.{thread_text}
 use Rattle.ptk_timeline_formats.specs.Traces.{numbered_events, threads_events}
+use Rattle.ptk_timeline_formats.specs.Views.{since_when}
 use Rattle.ptk_timeline_formats.proofs.Lists.{set_more}
+use Rattle.ptk_timeline_formats.proofs.Since.{one_since}
 use Rattle.ptk_timeline_formats.proofs.Texts.{AreThreadTexts, no_thread, one_thread, all_reached, all_threads}
 use Rattle.ptk_timeline_formats.proofs.Traces.{thread_traced}
 use Rattle.ptk_timeline_formats.proofs.threads.show_threads.Goals as goal
@@ -22,6 +24,7 @@ loop-i-init g c = record {
   to = refl;
   form = refl;
   shown = λ place default below. absurd (omega arith);
+  since = λ place default below. absurd (omega arith);
   later = λ place default past. refl;
   texts = λ vcd. no_thread (shown_eq.ghosts).eq (λ (t : ℕ). shown_in (is_step_of c.args.step.now t) t (state_of c.args.system.now c.args.p).part) c.args.tick c.args.p
       (take THREAD_LIMIT c.args.threads.now) (g.W.Write.contents c.args.out.now) c.args.sheet.now.at;
@@ -41,9 +44,14 @@ loop-i-preserved g c =
       within = c.show_thread.ensures.within;
       to = c.show_thread.ensures.to ∙ c.loop-i.invariant.to;
       form = c.show_thread.ensures.form ∙ c.loop-i.invariant.form;
-      shown = set_more (λ (k : ShownSince). k.shown) (λ (place : ℕ). shown_in (is_step_of c.args.step.now (place + 1)) (place + 1) (state_of c.args.system.now c.args.p).part)
+      shown = set_more (λ (place : ℕ) (_ k : ShownSince). k.shown ≡ shown_in (is_step_of c.args.step.now (place + 1)) (place + 1) (state_of c.args.system.now c.args.p).part)
           c.loop-i.i c.loop-i.threads c.in_ok-threads.field-0 within c.loop-i.invariant.shown
-          (c.in_ok-threads.ensures.shown ∙ ap (λ (t : ℕ). shown_in (is_step_of c.args.step.now t) t (state_of c.args.system.now c.args.p).part) number);
+          (λ default. c.in_ok-threads.ensures.shown ∙ ap (λ (t : ℕ). shown_in (is_step_of c.args.step.now t) t (state_of c.args.system.now c.args.p).part) number);
+      since = set_more (λ (place : ℕ) (default k : ShownSince). k.since ≡ since_when (shown_eq.ghosts).eq c.args.tick (get_or c.args.threads.now place default) k.shown)
+          c.loop-i.i c.loop-i.threads c.in_ok-threads.field-0 within c.loop-i.invariant.since
+          (one_since (shown_eq.ghosts).eq c.args.tick c.loop-i.i c.args.threads.now c.loop-i.threads c.index-threads-i.result
+          (shown_in (is_step_of c.args.step.now c.new-t.result) c.new-t.result (state_of c.args.system.now c.args.p).part) c.in_ok-threads.field-0 within
+          (λ default. c.loop-i.invariant.later c.loop-i.i default (omega arith)) c.in_ok-threads.ensures.shown c.in_ok-threads.ensures.since);
       later = λ place default past.
           let other : place ≢ c.loop-i.i = omega arith in
           get_or-set_other c.loop-i.threads c.loop-i.i place c.in_ok-threads.field-0 default other ∙ c.loop-i.invariant.later place default (omega arith);

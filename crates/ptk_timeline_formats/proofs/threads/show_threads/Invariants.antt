@@ -9,6 +9,7 @@ use Rattle.ptk_timeline_changes.specs.contracts.shown.ShownPartialEq.TheImpl as 
 use Rattle.ptk_timeline_changes.specs.Shown.{is_step_of, shown_in}
 use Rattle.ptk_timeline_formats.specs.declared.sheet.Form.TheVariants.{Vcd, Events}
 use Rattle.ptk_timeline_formats.specs.Traces.{numbered_events}
+use Rattle.ptk_timeline_formats.specs.Views.{since_when}
 use Rattle.ptk_timeline_formats.proofs.Texts.{AreThreadTexts}
 use Rattle.ptk_timeline_formats.proofs.threads.show_threads.Given as goal
 
@@ -18,6 +19,8 @@ invariant-loop-i g l = record {
   to : l.sheet.to ≡ l.initial.sheet.to;
   form : l.sheet.form ≡ l.initial.sheet.form;
   shown : (place : ℕ) (default : ShownSince) → place < l.i → (get_or l.threads place default).shown ≡ shown_in (is_step_of l.step (place + 1)) (place + 1) (state_of l.system l.p).part;
+  since : (place : ℕ) (default : ShownSince) → place < l.i
+      → (get_or l.threads place default).since ≡ since_when (shown_eq.ghosts).eq l.tick (get_or l.initial.threads place default) (get_or l.threads place default).shown;
   later : (place : ℕ) (default : ShownSince) → l.i ≤ place → get_or l.threads place default ≡ get_or l.initial.threads place default;
   texts : l.initial.sheet.form ≡ Vcd → AreThreadTexts (shown_eq.ghosts).eq (λ (t : ℕ). shown_in (is_step_of l.step t) t (state_of l.system l.p).part) l.tick l.p (take THREAD_LIMIT l.initial.threads)
       (g.W.Write.contents l.initial.out) (g.W.Write.contents l.out) l.initial.sheet.at l.sheet.at l.i;

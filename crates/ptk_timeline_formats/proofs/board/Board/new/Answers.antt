@@ -11,6 +11,7 @@ loop-i-preserved c =
     let first : IsFirstView c.args.system.now c.new-p.result c.in_ok-new.field-0 = record {
       kept = c.in_ok-new.ensures.kept;
       threads = c.in_ok-new.ensures.shown;
+      since = c.in_ok-new.ensures.since;
       count = c.in_ok-new.ensures.count ∙ ap (λ (threads : ℕ). min threads THREAD_LIMIT) c.threads_of.ensures;
     } in (
       omega (arith, ap length pushed, length-append c.loop-i.views.items (c.in_ok-new.field-0 ∷ []), c.loop-i.invariant.0),

@@ -33,13 +33,13 @@ returns-clause-text g c =
     let of_lost : List ℕ = lost_text output (state_of first p) p c.args.tick c.args.self.now in
     let step =
     step_shown (λ (sheet : Sheet). sheet.at) g.W.Write.contents form symbols c.decide.new.sheet.symbols.now decided_symbols p begin c.decide.new.sheet c.go_on.new.sheet c.decide.new.out c.go_on.new.out c.decide.new.self c.go_on.new.self
-    (state_of later p) (step_within c.decide.new.self.steps begin c.args.end (state_of later p)) c.in_ok-begin.ensures.kept c.in_ok-begin.ensures.shown c.go_on.ensures.count
+    (state_of later p) (step_within c.decide.new.self.steps begin c.args.end (state_of later p)) c.in_ok-begin.ensures.kept c.in_ok-begin.ensures.shown c.in_ok-begin.ensures.since c.go_on.ensures.count
     (λ vcd. c.in_ok-begin.ensures.reached (decided_form ∙ vcd)) (λ vcd. c.in_ok-begin.ensures.dump (decided_form ∙ vcd))
     (λ traced. c.in_ok-begin.ensures.events (decided_form ∙ traced)) in
     let end =
     end_shown (λ (sheet : Sheet). sheet.at) g.W.Write.contents form symbols c.go_on.new.sheet.symbols.now stepped_symbols p (tick_behind_step c.due_behind-next.result c.go_on.new.self.step) c.go_on.new.sheet c.settle.new.sheet
     c.go_on.new.out c.settle.new.out c.go_on.new.self c.settle.new.self
-    (state_of later p).part (is_step_over c.due_behind-next.result c.args.end c.go_on.new.self.step) c.settle.ensures.kept c.in_ok-settle.ensures.shown c.settle.ensures.count
+    (state_of later p).part (is_step_over c.due_behind-next.result c.args.end c.go_on.new.self.step) c.settle.ensures.kept c.in_ok-settle.ensures.shown c.in_ok-settle.ensures.since c.settle.ensures.count
     (λ vcd. c.in_ok-settle.ensures.reached (stepped_form ∙ vcd)) (λ vcd. c.in_ok-settle.ensures.dump (stepped_form ∙ vcd))
     (λ traced. c.in_ok-settle.ensures.events (stepped_form ∙ traced)) in (
       of_decision ++ of_lost ++ step.0 ++ end.0,
@@ -57,7 +57,7 @@ returns-clause-text g c =
         of_end = end.0;
         text = refl;
         decides = goes;
-        decision = record { written = refl; last = λ is. c.in_ok-decide.ensures.reached (sym (form_kept form symbols) ∙ is); threads = c.in_ok-decide.ensures.shown; count = c.decide.ensures.count };
+        decision = record { written = refl; last = λ is. c.in_ok-decide.ensures.reached (sym (form_kept form symbols) ∙ is); threads = c.in_ok-decide.ensures.shown; since = c.in_ok-decide.ensures.since; count = c.decide.ensures.count };
         kept = c.in_ok-decide.ensures.kept;
         goes_on = c.compute_to.ensures.run;
         steady = c.compute_to.ensures.steady p within;
