@@ -147,7 +147,8 @@ impl PartView {
         Ok(())
     }
 
-    /// Goes on from a tick of a window at which something can change, and writes what changes. Gives the next such tick.
+    /// Goes on from a tick of a window at which something can change, and writes what changes. Gives the next such
+    /// tick.
     fn stretch<W: Write>(
         &mut self,
         system: &mut System<'_>,
