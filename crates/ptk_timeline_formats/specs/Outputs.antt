@@ -1,5 +1,5 @@
 -- What is written of a run: a Value Change Dump or trace events, and what each has of what is shown.
-use Rattle.std.specs.Prelude.{ℕ, ◌+◌, nat_lt, Bool, if◌then◌else◌, List, [], ◌++◌, Option, take, codes}
+use Rattle.std.specs.Prelude.{ℕ, nat_lt, Bool, if◌then◌else◌, List, [], ◌++◌, Option, take, codes}
 use Rattle.std.specs.Option.{option_eq}
 use Rattle.ptk_words.specs.Names.{ThreadNumber}
 use Rattle.ptk_words.specs.contracts.numbers.ThreadNoPartialEq.TheImpl as number_eq
