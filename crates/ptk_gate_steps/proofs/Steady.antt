@@ -16,12 +16,13 @@ use Rattle.ptk_words_batches.proofs.QuietRows.{same_rank}
 use Rattle.ptk_gate_steps.specs.Steady.{IsOfRunning, IsSteady, at_rest, is_contended}
 
 pub steady_same : (s : Part) → IsSteady s s
-steady_same s = record { status = refl; running = refl; threads = λ t cpu. refl; priorities = λ t. refl; mutexes = λ m some. refl }
+steady_same s = record { status = refl; dropped = refl; running = refl; threads = λ t cpu. refl; priorities = λ t. refl; mutexes = λ m some. refl }
 
 -- what stays and then stays has stayed
 pub steady_on : (a b c : Part) → IsSteady a b → IsSteady b c → IsSteady a c
 steady_on a b c first then = record {
   status = then.status ∙ first.status;
+  dropped = then.dropped ∙ first.dropped;
   running = then.running ∙ first.running;
   threads = λ t cpu. then.threads t cpu ∙ first.threads t cpu;
   priorities = λ t. then.priorities t ∙ first.priorities t;
@@ -37,6 +38,7 @@ computed_rest registers n cpu (Some thread) = refl
 with_row_steady : (t n : ℕ) (c : Core) (last : Option Entry) (s : Part) → IsSteady s (with_row t n c last s)
 with_row_steady t n c last s = record {
   status = refl;
+  dropped = refl;
   running = refl;
   threads = λ u cpu. changed_same (option_map (at_rest cpu)) t (computed n c.cpu) s.threads (computed_rest cpu n c.cpu (pool_get s.threads t)) u;
   priorities = λ u. ap (λ (rank : ℕ → ℕ). rank u) (same_rank t n c.cpu s.threads s.mutexes);
@@ -62,7 +64,7 @@ KeepsContended o s = (m : ℕ) → is_contended (mutex_at s.locks m) ≡ true �
 -- a quiet call leaves them
 pub reply_steady : (limits : Limits) (tick t ticks : ℕ) (thread : Thread) (after : Processor) (o : Outcome) (s : Part) → IsReply limits ticks t thread after o s → KeepsContended o s → IsSteady s (after_reply tick t ticks thread after o s)
 reply_steady limits tick t ticks thread after o s is keeps =
-    let outcome : IsSteady s (with_outcome o s) = record { status = refl; running = refl; threads = λ u cpu. refl; priorities = is.priorities; mutexes = keeps } in
+    let outcome : IsSteady s (with_outcome o s) = record { status = refl; dropped = refl; running = refl; threads = λ u cpu. refl; priorities = is.priorities; mutexes = keeps } in
     steady_on s (with_outcome o s) (after_reply tick t ticks thread after o s) outcome
     (with_row_steady t ticks (core after s.memory) (Some (reply_entry tick t thread after)) (with_outcome o s))
 

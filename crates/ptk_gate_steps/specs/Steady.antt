@@ -16,9 +16,10 @@ is_contended x = is_locked x && nat_lt 0 (length (waiters_of x))
 abbrev pub at_rest : Processor → Thread → Thread
 at_rest cpu thread = record thread { cpu = cpu; used = 0 }
 
--- the same thread runs, each thread is and waits as before, with the same priorities, and so is each mutex that threads wait for (XSH 2.8.4; own)
+-- the same thread runs, each thread is and waits as before, with the same priorities, and so is each mutex that threads wait for; no byte of input was dropped (XSH 2.8.4; own)
 pub record IsSteady (s after : Part) : Type 0 where
   pub status : after.status ≡ s.status
+  pub dropped : after.console.dropped ≡ s.console.dropped
   pub running : after.running ≡ s.running
   pub threads : (t : ℕ) (cpu : Processor) → option_map (at_rest cpu) (thread_at after.locks t) ≡ option_map (at_rest cpu) (thread_at s.locks t)
   pub priorities : (t : ℕ) → effective_priority after.locks t ≡ effective_priority s.locks t
