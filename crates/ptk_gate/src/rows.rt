@@ -9,9 +9,9 @@ ghost use Rattle.ptk_words_batches.specs.Quiet.{IsQuiet};
 ghost use Rattle.ptk_words_batches.specs.Idle.{IsIdle};
 ghost use Rattle.ptk_gate_pools.specs.Kept.{part_at, put_part, limits_at};
 ghost use Rattle.ptk_gate_steps.specs.Chosen.{IsChosen};
-ghost use Rattle.ptk_gate_steps.specs.Decisions.{IsQuietTo};
+ghost use Rattle.ptk_gate_steps.specs.Decisions.{IsQuietTo, begun};
 ghost use Rattle.ptk_gate_steps.specs.NextSteps.{IsCallNext};
-ghost use Rattle.ptk_gate_steps.specs.Stretches.{HasEnded, HasGone};
+ghost use Rattle.ptk_gate_steps.specs.Stretches.{HasEnded, HasGone, IsCallLast};
 
 use crate::tables::Tables;
 use ptk_gate_steps::{Quiet, Reached, idle_until, prepared_until, quiet_until, run_quiet};
@@ -52,9 +52,10 @@ impl Tables {
 
     /// Steps of the running thread of a quiet partition in a row, the first of them at the tick: plain ones, and quiet
     /// calls that end at its stop or before; behind the first plain ones and the call that follows them, only such as
-    /// begin before `until`. Each is in place of a decision, and the trace has them as the newest. Returns the tick of
-    /// the next decision, how many steps there were, and whether the step at that tick is known to be a call. It ends
-    /// before its stop and before `until` only where the next step is neither of the two.
+    /// begin before `until`: where that is the tick or before, a call is the last step. Each is in place of a decision,
+    /// and the trace has them as the newest. Returns the tick of the next decision, how many steps there were, and
+    /// whether the step at that tick is known to be a call. It ends before its stop and before `until` only where the
+    /// next step is neither of the two.
     pub fn run_quiet(
         &mut self,
         p: PartId,
@@ -71,6 +72,7 @@ impl Tables {
         ensures within { result.tick ≤ quiet.stop }
         ensures moved { self.new ≡ put_part p (part_at p self.new) self.old }
         ensures gone { HasGone (limits_at p self.old) quiet.thread tick result.steps result.tick (part_at p self.old) (part_at p self.new) trace.old trace.new }
+        ensures last { until ≤ tick → IsCallLast (limits_at p self.old) result.steps (begun tick (part_at p self.old)) }
         ensures ended { result.tick < quiet.stop → (tick < result.tick → result.tick < until) → HasEnded quiet.stop quiet.thread result.tick (part_at p self.new) }
         ensures call { result.is_call ≡ true → IsCallNext quiet.thread (part_at p self.new) }
     {

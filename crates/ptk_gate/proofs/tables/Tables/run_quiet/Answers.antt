@@ -3,10 +3,10 @@ use Rattle.ptk_words_invariant.specs.Well.{IsWell}
 use Rattle.ptk_console.specs.ConsoleTable.{no_limits}
 use Rattle.ptk_gate_pools.specs.Kept.{Kept, part_at, put_part, limits_at}
 use Rattle.ptk_gate_pools.specs.Held.{all_of}
-use Rattle.ptk_gate_pools.proofs.Hands.{lowered}
-use Rattle.ptk_gate_steps.specs.Decisions.{IsQuietTo}
+use Rattle.ptk_gate_pools.proofs.Hands.{lowered, raised}
+use Rattle.ptk_gate_steps.specs.Decisions.{IsQuietTo, begun}
 use Rattle.ptk_gate_steps.specs.NextSteps.{IsCallNext}
-use Rattle.ptk_gate_steps.specs.Stretches.{HasEnded, HasGone}
+use Rattle.ptk_gate_steps.specs.Stretches.{HasEnded, HasGone, IsCallLast}
 use Rattle.ptk_gate.proofs.RowsWhole.{rows_gone, rows_here, rows_put, rows_whole}
 use Rattle.ptk_gate.proofs.Wholes.{well_at}
 use Rattle.ptk_gate.proofs.tables.Tables.run_quiet.Goals as goal
@@ -49,6 +49,12 @@ returns-clause-gone c =
     let lt : c.args.p < length now.limits = subst (λ (kept : Kept). c.args.p < length kept.limits) (sym c.self.view_is) c.requires.partition in
     subst (λ (kept : Kept). HasGone (limits_at c.args.p kept) c.args.quiet.thread c.args.tick c.run_quiet.result.steps c.run_quiet.result.tick (part_at c.args.p kept) (part_at c.args.p (all_of c.run_quiet.new.pools)) c.args.trace.now c.run_quiet.new.trace) c.self.view_is
     (rows_gone c.args.p c.args.quiet.thread c.args.tick c.run_quiet.result.steps c.run_quiet.result.tick now c.take.new.self c.run_quiet.new.pools c.args.trace.now c.run_quiet.new.trace c.self.invariant lt c.take.ensures c.run_quiet.ensures.moved c.run_quiet.ensures.gone)
+
+pub returns-clause-last : goal.returns-clause-last
+returns-clause-last c = λ sooner.
+    let now : Kept = all_of c.self.inside.pools in
+    subst (λ (kept : Kept). IsCallLast (limits_at c.args.p kept) c.run_quiet.result.steps (begun c.args.tick (part_at c.args.p kept))) c.self.view_is
+    (raised c.args.p (λ limits s. IsCallLast limits c.run_quiet.result.steps (begun c.args.tick s)) now c.take.new.self c.take.ensures (c.run_quiet.ensures.last sooner))
 
 pub returns-clause-ended : goal.returns-clause-ended
 returns-clause-ended c = λ before until.
