@@ -6,7 +6,7 @@ use Rattle.ptk_gate.specs.Quiet.{Quiet}
 use Rattle.ptk_gate.specs.Kept.{Kept, limits_at, part_at}
 pub use Rattle.ptk_gate.specs.Chosen.{IsChosen}
 pub use Rattle.ptk_gate.specs.NextSteps.{IsCallNext}
-pub use Rattle.ptk_gate.specs.Stretches.{HasEnded, HasGone}
+pub use Rattle.ptk_gate.specs.Stretches.{HasEnded, HasGone, IsCallLast}
 
 -- partition p is quiet from the tick up to another, with this thread running (own)
 abbrev pub IsStillTo : ℕ → ℕ → ℕ → ℕ → Kept → Type 0

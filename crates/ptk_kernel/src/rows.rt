@@ -9,8 +9,9 @@ ghost use Rattle.ptk_words_batches.specs.Quiet.{IsQuiet};
 ghost use Rattle.ptk_words_batches.specs.Idle.{IsIdle};
 ghost use Rattle.ptk_gate.specs.Kept.{part_at, put_part, limits_at};
 ghost use Rattle.ptk_gate.specs.Chosen.{IsChosen};
+ghost use Rattle.ptk_gate.specs.Decisions.{begun};
 ghost use Rattle.ptk_gate.specs.NextSteps.{IsCallNext};
-ghost use Rattle.ptk_gate.specs.Stretches.{HasEnded, HasGone};
+ghost use Rattle.ptk_gate.specs.Stretches.{HasEnded, HasGone, IsCallLast};
 ghost use Rattle.ptk_kernel.specs.Rows.{IsStill, IsStillTo};
 
 use ptk_gate::{Quiet, Reached, Tables};
@@ -48,12 +49,12 @@ pub fn prepared_until(tables: &Tables, p: PartId, tick: Tick, stop: Tick) -> Opt
 
 /// Steps of a quiet partition in a row, the first of them at the tick, each in place of a decision: plain ones, and
 /// quiet calls that end at its stop or before. Such a call replies at once, wakes nobody and changes no priority.
-/// Behind the first plain steps and the call that follows them, only such as begin before `until`. Returns the tick of
-/// the next decision, how many steps there were, and whether the step at that tick is known to be a call; the first
-/// tick, and nothing changes, where its next step is neither of the two. It ends before its stop and before `until`
-/// only there. The partition is as quiet as it was, up to that stop or a later one: the same thread runs, each thread
-/// waits as before, and a mutex that threads wait for keeps its owner. The trace has the steps as the newest. No other
-/// partition changes.
+/// Behind the first plain steps and the call that follows them, only such as begin before `until`: where that is the
+/// tick or before, a call is the last step. Returns the tick of the next decision, how many steps there were, and
+/// whether the step at that tick is known to be a call; the first tick, and nothing changes, where its next step is
+/// neither of the two. It ends before its stop and before `until` only there. The partition is as quiet as it was, up
+/// to that stop or a later one: the same thread runs, each thread waits as before, and a mutex that threads wait for
+/// keeps its owner. The trace has the steps as the newest. No other partition changes.
 pub fn run_quiet(
     tables: &mut Tables,
     p: PartId,
@@ -72,6 +73,7 @@ pub fn run_quiet(
     ensures none { result.steps ≡ 0 → (result.tick ≡ tick) × (tables.new ≡ tables.old) × (trace.new ≡ trace.old) }
     ensures moved { tables.new ≡ put_part p (part_at p tables.new) tables.old }
     ensures gone { HasGone (limits_at p tables.old) quiet.thread tick result.steps result.tick (part_at p tables.old) (part_at p tables.new) trace.old trace.new }
+    ensures last { until ≤ tick → IsCallLast (limits_at p tables.old) result.steps (begun tick (part_at p tables.old)) }
     ensures ended { result.tick < quiet.stop → (tick < result.tick → result.tick < until) → HasEnded quiet.stop quiet.thread result.tick (part_at p tables.new) }
     ensures call { result.is_call ≡ true → IsCallNext quiet.thread (part_at p tables.new) }
     ensures still { (stop : ℕ) → quiet.stop ≤ stop → IsStillTo p tick stop quiet.thread tables.old → IsStillTo p result.tick stop quiet.thread tables.new }
