@@ -1,5 +1,5 @@
 -- Decisions one after the other, each a step, are the ticks that they take, and leave the threads as they are and wait.
-use Rattle.std.proofs.Common.{◌≡◌, ℕ, zero, suc, ◌+◌, ◌-◌, ◌<◌, ◌≤◌, Bool, true, false, List, ◌++◌, append_assoc, Some, None, sym, ap, subst, ◌∙◌, arith}
+use Rattle.std.proofs.Common.{◌≡◌, ℕ, zero, suc, ◌+◌, ◌-◌, ◌<◌, ◌≤◌, Bool, true, false, List, ◌++◌, append_assoc, Some, None, refl, sym, ap, subst, ◌∙◌, arith}
 use Rattle.std.specs.Prelude.{option_to_list, if◌then◌else◌}
 use Rattle.std.proofs.lemmas.Option.{MatchOption-at_some}
 use Rattle.ptk_words.specs.declared.faults.Status.{Status}
@@ -29,12 +29,16 @@ pub own_later : (plan : WindowPlan) (p : ℕ) → IsPlan plan → IsLater (own_t
 own_later plan p is = λ k j e.
     (MatchOption-at_some ((n : ℕ) → k ≤ n → ¬ IsOwn plan p n) (IsFirstOwn plan p k) j e (next_first plan p k is)).not_before
 
-next_later : (ticks : OwnTicks) (status : Status) (k j : ℕ) → IsLater ticks → next_from ticks status k ≡ Some j → k ≤ j
-next_later ticks status k j later e = by (is_active status) e
+-- the next own tick of a partition that is not halted
+pub next_active : (ticks : OwnTicks) (status : Status) (k j : ℕ) → next_from ticks status k ≡ Some j → ticks.next_of k ≡ Some j
+next_active ticks status k j e = by (is_active status) e
   where
-    by : (b : Bool) → (if b then ticks.next_of k else None) ≡ Some j → k ≤ j
-    by true at = later k j at
+    by : (b : Bool) → (if b then ticks.next_of k else None) ≡ Some j → ticks.next_of k ≡ Some j
+    by true at = at
     by false at = absurd (let no : ⊥ = cc in no)
+
+next_later : (ticks : OwnTicks) (status : Status) (k j : ℕ) → IsLater ticks → next_from ticks status k ≡ Some j → k ≤ j
+next_later ticks status k j later e = later k j (next_active ticks status k j e)
 
 -- ---- one decision
 
@@ -82,7 +86,7 @@ gone_state ticks limits tick n s =
       };
     }
 
-one_more : (ticks : OwnTicks) (limits : Limits) (t tick n cost : ℕ) (s : State) → IsQuietStep limits t cost (decisions limits n (begun tick s.part)).tick (decisions limits n (begun tick s.part)).part
+pub one_more : (ticks : OwnTicks) (limits : Limits) (t tick n cost : ℕ) (s : State) → IsQuietStep limits t cost (decisions limits n (begun tick s.part)).tick (decisions limits n (begun tick s.part)).part
     → stepped_on ticks limits (decisions limits n (begun tick s.part)).tick cost (gone_state ticks limits tick n s) ≡ gone_state ticks limits tick (suc n) s
 unfolding decisions entries_of
 one_more ticks limits t tick n cost s is =
@@ -102,7 +106,7 @@ one_more ticks limits t tick n cost s is =
     let path : ◌≡◌ {A = State} (stepped_on ticks limits (decisions limits n (begun tick s.part)).tick cost (gone_state ticks limits tick n s)) (gone_state ticks limits tick (suc n) s) = λ i. made (at i) (steps i) (trace i) in
     path
 
-first_one : (ticks : OwnTicks) (limits : Limits) (t tick cost : ℕ) (s : State) → IsQuietStep limits t cost tick s.part → stepped_on ticks limits tick cost s ≡ gone_state ticks limits tick 1 s
+pub first_one : (ticks : OwnTicks) (limits : Limits) (t tick cost : ℕ) (s : State) → IsQuietStep limits t cost tick s.part → stepped_on ticks limits tick cost s ≡ gone_state ticks limits tick 1 s
 unfolding decisions entries_of
 first_one ticks limits t tick cost s is =
     ap (λ (k : ℕ). record (stepped_on ticks limits tick cost s) { account = record (stepped_on ticks limits tick cost s).account { next = next_from ticks (after_decision limits tick 16 s.part).status k } })
@@ -114,7 +118,7 @@ step_steady : (ticks : OwnTicks) (limits : Limits) (t tick cost end : ℕ) (s : 
 step_steady ticks limits t tick cost end s later ends within due is =
     steady_call s (stepped_on ticks limits tick cost s) (states_from ticks limits tick s) tick (tick + cost) (states_first ticks limits tick s)
     (λ k after le. step_gone ticks limits t tick cost end (k - tick) s later ends within due is (omega (arith, after)) (omega (arith, le)))
-    is.steady is.last
+    is.steady refl is.last
 
 -- what so many decisions are
 abbrev pub HaveGone : OwnTicks → Limits → ℕ → ℕ → State → Type 0

@@ -9,6 +9,7 @@ pub mod StillQuiet
 pub mod Progress
 pub mod Prepared
 pub mod Steady
+pub mod LastCalls
 pub mod First
 pub use Rattle.ptk_kernel.proofs.Parted
 pub use Rattle.ptk_kernel.proofs.BlankParts

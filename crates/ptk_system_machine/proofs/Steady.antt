@@ -34,13 +34,16 @@ states_later ticks limits from mid k s le on =
 
 -- ---- steady ticks
 
-less_self : (n : ℕ) → n < n → ⊥
+pub less_self : (n : ℕ) → n < n → ⊥
 less_self n lt = omega (arith, lt)
 
 -- the same states over the same ticks
 pub steady_eq : (s : Part) (f g : ℕ → State) (from to : ℕ) → ((k : ℕ) → from ≤ k → k ≤ to → g k ≡ f k) → AreSteady s f from to → AreSteady s g from to
 steady_eq s f g from to same are = record {
   parts = λ k le within. subst (λ (u : State). IsSteady s u.part) (sym (same k le within)) (are.parts k le within);
+  lost = λ k le within.
+      ap (λ (u : State). u.account.lost) (same k le within)
+      ∙ (are.lost k le within ∙ sym (ap (λ (u : State). u.account.lost) (same from (omega arith) (omega (arith, le, within)))));
   steps = λ k le lt more.
       let here : g k ≡ f k = same k le (omega (arith, lt)) in
       let next : g (k + 1) ≡ f (k + 1) = same (k + 1) (omega (arith, le)) (omega (arith, lt)) in
@@ -52,6 +55,7 @@ steady_eq s f g from to same are = record {
 pub steady_still : (s : State) (states : ℕ → State) (from to : ℕ) → ((k : ℕ) → from ≤ k → k ≤ to → states k ≡ s) → AreSteady s.part states from to
 steady_still s states from to same = record {
   parts = λ k le within. subst (λ (u : State). IsSteady s.part u.part) (sym (same k le within)) (steady_same s.part);
+  lost = λ k le within. ap (λ (u : State). u.account.lost) (same k le within) ∙ sym (ap (λ (u : State). u.account.lost) (same from (omega arith) (omega (arith, le, within))));
   steps = λ k le lt more.
       let here : states k ≡ s = same k le (omega (arith, lt)) in
       let next : states (k + 1) ≡ s = same (k + 1) (omega (arith, le)) (omega (arith, lt)) in
@@ -64,7 +68,11 @@ steady_start ticks limits tick s = steady_still s (states_from ticks limits tick
 
 -- steady ticks, and then more of them
 pub steady_further : (s : Part) (f g : ℕ → State) (from mid to : ℕ) → from ≤ mid → mid ≤ to → AreSteady s f from mid → AreSteady (f mid).part g mid to → ((k : ℕ) → mid ≤ k → k ≤ to → f k ≡ g k) → AreSteady s f from to
-steady_further s f g from mid to le later first then same = record { parts = λ k on within. part_by k on within (cases_lt k mid); steps = λ k on lt more. step_by k on lt more (cases_lt k mid) }
+steady_further s f g from mid to le later first then same = record {
+  parts = λ k on within. part_by k on within (cases_lt k mid);
+  lost = λ k on within. lost_by k on within (cases_lt k mid);
+  steps = λ k on lt more. step_by k on lt more (cases_lt k mid);
+}
   where
     then_f : AreSteady (f mid).part f mid to
     then_f = steady_eq (f mid).part g f mid to same then
@@ -72,6 +80,10 @@ steady_further s f g from mid to le later first then same = record { parts = λ 
     part_by : (k : ℕ) → from ≤ k → k ≤ to → (k < mid) ⊎ (mid ≤ k) → IsSteady s (f k).part
     part_by k on within (inl before) = first.parts k on (omega (arith, before))
     part_by k on within (inr behind) = steady_on s (f mid).part (f k).part (first.parts mid le (omega arith)) (then_f.parts k behind within)
+
+    lost_by : (k : ℕ) → from ≤ k → k ≤ to → (k < mid) ⊎ (mid ≤ k) → (f k).account.lost ≡ (f from).account.lost
+    lost_by k on within (inl before) = first.lost k on (omega (arith, before))
+    lost_by k on within (inr behind) = then_f.lost k behind within ∙ first.lost mid le (omega arith)
 
     step_by : (k : ℕ) → from ≤ k → k < to → (f k).account.steps < (f (k + 1)).account.steps → (k < mid) ⊎ (mid ≤ k) → IsOfRunning (f (k + 1)).part
     step_by k on lt more (inl before) = first.steps k on before more
@@ -109,14 +121,24 @@ steady_up ticks p tick n to old new is lt le before gone first =
 -- ---- a quiet call
 
 -- the state that a decision leaves, up to the next one
-pub steady_call : (s u : State) (states : ℕ → State) (from to : ℕ) → states from ≡ s → ((k : ℕ) → from < k → k ≤ to → states k ≡ u) → IsSteady s.part u.part → IsOfRunning u.part → AreSteady s.part states from to
-steady_call s u states from to first then steady last = record { parts = λ k le within. part_by k le within (cases_lt from k); steps = λ k le lt more. step_by k le lt }
+pub steady_call : (s u : State) (states : ℕ → State) (from to : ℕ) → states from ≡ s → ((k : ℕ) → from < k → k ≤ to → states k ≡ u) → IsSteady s.part u.part → u.account.lost ≡ s.account.lost → IsOfRunning u.part → AreSteady s.part states from to
+steady_call s u states from to first then steady kept last = record {
+  parts = λ k le within. part_by k le within (cases_lt from k);
+  lost = λ k le within. lost_by k le within (cases_lt from k);
+  steps = λ k le lt more. step_by k le lt;
+}
   where
     part_by : (k : ℕ) → from ≤ k → k ≤ to → (from < k) ⊎ (k ≤ from) → IsSteady s.part (states k).part
     part_by k le within (inl after) = subst (λ (v : State). IsSteady s.part v.part) (sym (then k after within)) steady
     part_by k le within (inr not) =
         let at : k ≡ from = omega (arith, le, not) in
         subst (λ (v : State). IsSteady s.part v.part) (sym (ap states at ∙ first)) (steady_same s.part)
+
+    lost_by : (k : ℕ) → from ≤ k → k ≤ to → (from < k) ⊎ (k ≤ from) → (states k).account.lost ≡ (states from).account.lost
+    lost_by k le within (inl after) = ap (λ (v : State). v.account.lost) (then k after within) ∙ (kept ∙ sym (ap (λ (v : State). v.account.lost) first))
+    lost_by k le within (inr not) =
+        let at : k ≡ from = omega (arith, le, not) in
+        ap (λ (j : ℕ). (states j).account.lost) at
 
     step_by : (k : ℕ) → from ≤ k → k < to → IsOfRunning (states (k + 1)).part
     step_by k le lt = subst (λ (v : State). IsOfRunning v.part) (sym (then (k + 1) (omega (arith, le)) (omega (arith, lt)))) last

@@ -8,7 +8,8 @@
 //!   quiet calls over any number of windows, turns of single threads and the ticks over which a partition has nothing
 //!   to do, does to each partition what these ticks do to it alone (`Machine::run`).
 //! - At each tick of a row of plain steps and quiet calls the threads of each partition are and wait as at its first
-//!   (`Machine::run_row` and `Machine::run_call`, `steady`).
+//!   (`Machine::run_row` and `Machine::run_call`, `steady`), and behind a call to which `Machine::run_call` goes
+//!   nothing happens (`last`).
 //! - Each turn is prepared once: what is quiet is prepared, and from what is prepared and quiet ticks lead where they
 //!   lead from the state before (`quiet_is_prepared`, `prepared_goes_on` of `ptk_words_batches`).
 //!

@@ -15,7 +15,7 @@ ghost use Rattle.ptk_kernel.specs.Rows.{IsCallNext, IsChosen, IsStill, IsStillTo
 ghost use Rattle.ptk_kernel.specs.Decisions.{longest_step};
 ghost use Rattle.ptk_kernel.specs.Spending.{cost_in};
 ghost use Rattle.ptk_system_machine.specs.Accounts.{IsBehind};
-ghost use Rattle.ptk_system_machine.specs.Steady.{AreSteady, states_from};
+ghost use Rattle.ptk_system_machine.specs.Steady.{AreSteady, IsStillBehindCall, states_from};
 ghost use Rattle.ptk_system_machine.specs.Turns.{ComesFirst, HasDecided, IsAt, IsComing, IsFreeFrom, IsInWindow, IsPlainAt, IsStillUntil, IsUpTo};
 ghost use Rattle.ptk_system_machine.specs.Whole.{AreWindowsOf, account_at, gone_on, put_state, state_at};
 
@@ -446,8 +446,9 @@ impl Machine {
     }
 
     /// Plain steps of a quiet partition and quiet calls, as `rows` says of them, before its stop; behind the first row
-    /// and the call that ends it, only such as begin before `until`. The partition is as quiet as it was, up to that
-    /// stop. It is `rows_before` with a walk of its own.
+    /// and the call that ends it, only such as begin before `until`, so that nothing happens behind a call where that
+    /// is not after the turn's first tick. The partition is as quiet as it was, up to that stop. It is `rows_before`
+    /// with a walk of its own.
     fn rows_on(
         &mut self,
         plan: &WindowPlan,
@@ -471,6 +472,7 @@ impl Machine {
         ensures coming { IsComing (own_ticks plan.now p) to (account_at p self.new).account.next result }
         ensures gone { self.new ≡ gone_on (own_ticks plan.now p) p turn.start (result.start - turn.start) self.old }
         ensures steady { AreSteady (part_at p self.old.kept) (states_from (own_ticks plan.now p) (limits_at p self.old.kept) turn.start (state_at p self.old)) turn.start result.start }
+        ensures last { until ≤ turn.start → IsStillBehindCall (states_from (own_ticks plan.now p) (limits_at p self.old.kept) turn.start (state_at p self.old)) turn.start result.start }
         ensures still { IsStill p result.start quiet self.new.kept }
     {
         let _parts = self.parts();
@@ -511,6 +513,7 @@ impl Machine {
         ensures coming { IsComing (own_ticks plan.now p) to (account_at p self.new).account.next result.turn }
         ensures gone { self.new ≡ gone_on (own_ticks plan.now p) p turn.start (result.turn.start - turn.start) self.old }
         ensures steady { AreSteady (part_at p self.old.kept) (states_from (own_ticks plan.now p) (limits_at p self.old.kept) turn.start (state_at p self.old)) turn.start result.turn.start }
+        ensures last { until ≤ turn.start → IsStillBehindCall (states_from (own_ticks plan.now p) (limits_at p self.old.kept) turn.start (state_at p self.old)) turn.start result.turn.start }
         ensures still { IsStill p result.turn.start quiet self.new.kept }
         ensures walk { result.turn.start < to → IsAt plan.now p result.turn.end walk.new }
         ensures call { result.is_call ≡ true → IsCallNext quiet.thread (part_at p self.new.kept) }
@@ -543,7 +546,8 @@ impl Machine {
     }
 
     /// Steps of a quiet partition in the turn's window, the first at its next decision, with which the turn begins:
-    /// plain ones, and the quiet calls between them. Returns the next turn, and whether its step is known to be a call.
+    /// plain ones, and the quiet calls between them; behind the first row and the call that ends it, only such as begin
+    /// before `until`. Returns the next turn, and whether its step is known to be a call.
     #[inline(always)]
     fn run_window(
         &mut self,
@@ -570,6 +574,7 @@ impl Machine {
         ensures coming { IsComing (own_ticks plan.now p) to (account_at p self.new).account.next result.turn }
         ensures gone { self.new ≡ gone_on (own_ticks plan.now p) p turn.start (result.turn.start - turn.start) self.old }
         ensures steady { AreSteady (part_at p self.old.kept) (states_from (own_ticks plan.now p) (limits_at p self.old.kept) turn.start (state_at p self.old)) turn.start result.turn.start }
+        ensures last { until ≤ turn.start → IsStillBehindCall (states_from (own_ticks plan.now p) (limits_at p self.old.kept) turn.start (state_at p self.old)) turn.start result.turn.start }
         ensures still { IsStill p result.turn.start quiet.now self.new.kept }
         ensures walk { result.turn.start < to → IsAt plan.now p result.turn.end walk.new }
         ensures call { result.is_call ≡ true → IsCallNext quiet.now.thread (part_at p self.new.kept) }
@@ -610,6 +615,7 @@ impl Machine {
         ensures coming { IsComing (own_ticks plan.now p) to (account_at p self.new).account.next result.turn }
         ensures gone { self.new ≡ gone_on (own_ticks plan.now p) p turn.start (result.turn.start - turn.start) self.old }
         ensures steady { AreSteady (part_at p self.old.kept) (states_from (own_ticks plan.now p) (limits_at p self.old.kept) turn.start (state_at p self.old)) turn.start result.turn.start }
+        ensures last { until ≤ turn.start → IsStillBehindCall (states_from (own_ticks plan.now p) (limits_at p self.old.kept) turn.start (state_at p self.old)) turn.start result.turn.start }
         ensures still { (stop : ℕ) → quiet.now.stop ≤ stop → IsStillTo p turn.start stop quiet.now.thread self.old.kept → IsStillTo p result.turn.start stop quiet.now.thread self.new.kept }
         ensures walk { result.turn.start < to → IsAt plan.now p result.turn.end walk.new }
         ensures call { result.is_call ≡ true → IsCallNext quiet.now.thread (part_at p self.new.kept) }

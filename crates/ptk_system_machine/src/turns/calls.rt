@@ -7,7 +7,7 @@ ghost use Rattle.ptk_words_batches.specs.Quiet.{after_ticks};
 ghost use Rattle.ptk_kernel.specs.Kept.{limits_at, part_at};
 ghost use Rattle.ptk_kernel.specs.Rows.{IsStill};
 ghost use Rattle.ptk_system_machine.specs.Accounts.{IsBehind};
-ghost use Rattle.ptk_system_machine.specs.Steady.{AreSteady, states_from};
+ghost use Rattle.ptk_system_machine.specs.Steady.{AreSteady, IsStillBehindCall, states_from};
 ghost use Rattle.ptk_system_machine.specs.Turns.{IsComing, IsPlainAt};
 ghost use Rattle.ptk_system_machine.specs.Whole.{AreWindowsOf, account_at, gone_on, state_at};
 
@@ -20,7 +20,8 @@ impl Machine {
     /// Goes on from a tick as `run_row` does, but by plain steps of one window at most and the quiet call behind them,
     /// which is the last step. Returns the tick that it reached, which is the first one only where a decision at that
     /// tick is no plain step of a quiet partition. To each partition it does what this many ticks would do to that
-    /// partition alone. At each tick on the way each partition's threads are and wait as at the first one.
+    /// partition alone. At each tick on the way each partition's threads are and wait as at the first one, and behind a
+    /// call nothing happens.
     pub fn run_call(&mut self, plan: &WindowPlan, tick: Tick, to: Tick) -> Tick
         requires windows { AreWindowsOf (length self.old.accounts) plan.now }
         requires order { tick ≤ to }
@@ -36,6 +37,8 @@ impl Machine {
             state_at q self.new ≡ after_ticks (own_ticks plan.now q) (limits_at q self.old.kept) tick (result - tick) (state_at q self.old) }
         ensures steady { (q : ℕ) → q < length self.old.accounts →
             AreSteady (part_at q self.old.kept) (states_from (own_ticks plan.now q) (limits_at q self.old.kept) tick (state_at q self.old)) tick result }
+        ensures last { (q : ℕ) → q < length self.old.accounts →
+            IsStillBehindCall (states_from (own_ticks plan.now q) (limits_at q self.old.kept) tick (state_at q self.old)) tick result }
     {
         let _parts = self.parts();
         let Some(first) = self.first_due(plan, tick, to) else {
@@ -46,8 +49,8 @@ impl Machine {
 
     /// Plain steps of the partition and the quiet call behind them, the first at its next decision, with which the turn
     /// begins, each in place of a decision and counted as one: as many plain steps as come before `to` in the turn's
-    /// window. Returns the next turn, which is the same, and nothing changes, where the next decision is no step of a
-    /// quiet partition of this kind, and a later one where it is a plain one.
+    /// window. Behind the call nothing happens. Returns the next turn, which is the same, and nothing changes, where
+    /// the next decision is no step of a quiet partition of this kind, and a later one where it is a plain one.
     fn call_rows(&mut self, plan: &WindowPlan, p: PartId, turn: Turn, to: Tick) -> Turn
         requires partition { p < length self.old.accounts }
         requires windows { AreWindowsOf (length self.old.accounts) plan.now }
@@ -60,6 +63,7 @@ impl Machine {
         ensures coming { IsComing (own_ticks plan.now p) to (account_at p self.new).account.next result }
         ensures gone { self.new ≡ gone_on (own_ticks plan.now p) p turn.start (result.start - turn.start) self.old }
         ensures steady { AreSteady (part_at p self.old.kept) (states_from (own_ticks plan.now p) (limits_at p self.old.kept) turn.start (state_at p self.old)) turn.start result.start }
+        ensures last { IsStillBehindCall (states_from (own_ticks plan.now p) (limits_at p self.old.kept) turn.start (state_at p self.old)) turn.start result.start }
     {
         let _parts = self.parts();
         plan.is_plan();

@@ -2,7 +2,9 @@ use Rattle.std.proofs.Common.{◌+◌, ◌-◌, sym, subst, arith}
 use Rattle.ptk_words_windows.specs.Windows.{own_ticks}
 use Rattle.ptk_words_batches.specs.Quiet.{IsQuiet}
 use Rattle.ptk_kernel.specs.Kept.{limits_at, part_at}
+use Rattle.ptk_system_machine.specs.Steady.{states_from}
 use Rattle.ptk_system_machine.specs.Whole.{Whole, state_at}
+use Rattle.ptk_system_machine.proofs.LastCalls.{call_start}
 use Rattle.ptk_system_machine.proofs.Steady.{steady_start}
 use Rattle.ptk_system_machine.proofs.Ticks.{gone_start}
 use Rattle.ptk_system_machine.proofs.machine.Machine.call_rows.Goals as goal
@@ -17,3 +19,9 @@ returns-in-None-clause-plain c = λ at.
 
 pub returns-in-None-clause-steady : goal.returns-in-None-clause-steady
 returns-in-None-clause-steady c = steady_start (own_ticks c.args.plan.now c.args.p) (limits_at c.args.p c.args.self.now.kept) c.args.turn.start (state_at c.args.p c.args.self.now)
+
+pub returns-in-Some-clause-last : goal.returns-in-Some-clause-last
+returns-in-Some-clause-last c = c.rows_on.ensures.last (omega arith)
+
+pub returns-in-None-clause-last : goal.returns-in-None-clause-last
+returns-in-None-clause-last c = call_start (states_from (own_ticks c.args.plan.now c.args.p) (limits_at c.args.p c.args.self.now.kept) c.args.turn.start (state_at c.args.p c.args.self.now)) c.args.turn.start

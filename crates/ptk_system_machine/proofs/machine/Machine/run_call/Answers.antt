@@ -2,10 +2,11 @@ use Rattle.std.proofs.Common.{◌≡◌, ◌-◌, ◌<◌, ◌≤◌, sym, subst
 use Rattle.ptk_words_windows.specs.Windows.{own_ticks}
 use Rattle.ptk_kernel.specs.Kept.{limits_at, part_at}
 use Rattle.ptk_system_machine.specs.Accounts.{IsBehind}
-use Rattle.ptk_system_machine.specs.Steady.{AreSteady, states_from}
+use Rattle.ptk_system_machine.specs.Steady.{AreSteady, IsStillBehindCall, states_from}
 use Rattle.ptk_system_machine.specs.Turns.{IsComing, IsPlainAt}
 use Rattle.ptk_system_machine.specs.Whole.{Whole, account_at, gone_on, state_at}
 use Rattle.ptk_system_machine.proofs.Behind.{behind_later}
+use Rattle.ptk_system_machine.proofs.LastCalls.{call_each, call_stays}
 use Rattle.ptk_system_machine.proofs.Coming.{coming_before, row_each}
 use Rattle.ptk_system_machine.proofs.First.{still_before}
 use Rattle.ptk_system_machine.proofs.Progress.{goes_on}
@@ -55,3 +56,15 @@ returns-clause-steady c =
 
 pub returns-in_default-clause-steady : goal.returns-in_default-clause-steady
 returns-in_default-clause-steady c = λ q below. steady_stays (own_ticks c.args.plan.now q) q c.args.tick c.args.to c.args.self.now (c.in_default.ensures.first q below)
+
+pub returns-clause-last : goal.returns-clause-last
+returns-clause-last c =
+    let first = c.in-Some.ensures.first.1 in
+    let due = first.due c.in-Some.ensures.first.0 in
+    let on : c.in-Some.first.turn.start ≤ c.call_rows.result.start = c.call_rows.ensures.from in
+    call_each c.args.plan.now c.in-Some.first.p c.args.tick c.in-Some.first.turn.start c.call_rows.result.start c.args.self.now (first.still c.in-Some.first.p due.0) due.2.from on
+    (λ q below differ. still_before (own_ticks c.args.plan.now q) (limits_at q c.args.self.now.kept) c.args.tick c.in-Some.first.stop c.call_rows.result.start (state_at q c.args.self.now) c.call_rows.ensures.coming.within (first.others q below differ))
+    (subst (λ (w : Whole). IsStillBehindCall (states_from (own_ticks c.args.plan.now c.in-Some.first.p) (limits_at c.in-Some.first.p w.kept) c.in-Some.first.turn.start (state_at c.in-Some.first.p w)) c.in-Some.first.turn.start c.call_rows.result.start) c.first_due.ensures.same c.call_rows.ensures.last)
+
+pub returns-in_default-clause-last : goal.returns-in_default-clause-last
+returns-in_default-clause-last c = λ q below. call_stays (own_ticks c.args.plan.now q) q c.args.tick c.args.to c.args.self.now (c.in_default.ensures.first q below)

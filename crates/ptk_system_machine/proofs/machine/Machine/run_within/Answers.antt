@@ -5,8 +5,10 @@ use Rattle.ptk_kernel.specs.Rows.{IsStillTo}
 use Rattle.ptk_system_machine.specs.Accounts.{KeptAccount, kept_account_of}
 use Rattle.ptk_system_machine.specs.Turns.{IsInWindow, IsPlainAt}
 use Rattle.ptk_system_machine.specs.Whole.{Whole, IsWhole, no_account}
+use Rattle.ptk_system_machine.proofs.LastCalls.{call_row}
 use Rattle.ptk_system_machine.proofs.Coming.{at_coming, begins_from}
 use Rattle.ptk_system_machine.proofs.CountedRows.{counted_up, rows_from, rows_whole, with_row_of}
+use Rattle.ptk_system_machine.proofs.Decisions.{own_later}
 use Rattle.ptk_system_machine.proofs.Progress.{plain_on}
 use Rattle.ptk_system_machine.proofs.States.{account_put, account_read}
 use Rattle.ptk_system_machine.proofs.StillQuiet.{still_later}
@@ -58,6 +60,13 @@ returns-then-ticks-clause-steady c =
     c.index_mut-account.result.now (kept_account_of c.account.inside) c.count_row.new.self c.args.self.now c.is_plan.ensures c.self.view_is c.self.invariant c.requires.partition c.requires.coming c.requires.order c.requires.within
     (omega (arith, c.run_quiet-reached.ensures.within, c.requires.end)) c.requires.quiet (c.run_quiet-reached.ensures.still c.args.quiet.now.stop (omega arith)) found c.run_quiet-reached.ensures.moved c.index.ensures c.account.view_is c.index_mut-account.ensures.value
     c.run_quiet-reached.ensures.none c.run_quiet-reached.ensures.gone c.count_row.ensures).1
+
+pub returns-then-ticks-clause-last : goal.returns-then-ticks-clause-last
+returns-then-ticks-clause-last c = λ sooner.
+    call_row c.args.plan.now c.args.p c.args.to c.run_quiet-reached.result.steps c.run_quiet-reached.result.tick c.run_quiet-reached.result.tick c.args.quiet.now.thread c.args.turn c.self.inside.tables c.self.inside.accounts.items
+    (part_at c.args.p c.run_quiet-reached.new.tables) _ c.run_quiet-reached.new.trace c.args.self.now c.is_plan.ensures c.self.view_is c.requires.coming (omega (arith, c.requires.order, c.requires.within))
+    (omega (arith, c.run_quiet-reached.ensures.within, c.requires.end)) (omega arith) (λ k e. own_later c.args.plan.now c.args.p c.is_plan.ensures c.run_quiet-reached.result.tick k e)
+    c.run_quiet-reached.ensures.gone (c.run_quiet-reached.ensures.last sooner)
 
 pub returns-clause-from : goal.returns-clause-from
 returns-clause-from c =
@@ -128,6 +137,16 @@ returns-clause-steady c =
     c.index_mut-account.result.now (kept_account_of c.account.inside) c.count_row-2.new.self c.args.self.now c.is_plan.ensures c.self.view_is c.self.invariant c.requires.partition c.requires.coming c.requires.order c.requires.within
     (omega (arith, c.run_quiet-reached.ensures.within, c.requires.end)) c.requires.quiet (c.run_quiet-reached.ensures.still c.args.quiet.now.stop (omega arith)) c.turn_on.ensures.next c.run_quiet-reached.ensures.moved c.index.ensures c.account.view_is c.index_mut-account.ensures.value
     c.run_quiet-reached.ensures.none c.run_quiet-reached.ensures.gone row)).1
+
+pub returns-clause-last : goal.returns-clause-last
+returns-clause-last c = λ sooner.
+    let next = c.next.ensures ∙ ap (λ (a : KeptAccount). a.account.next) c.count_row-2.ensures in
+    let later : c.run_quiet-reached.result.tick ≤ c.coming.result.start =
+    begins_from c.run_quiet-reached.result.tick c.run_quiet-reached.result.tick c.args.to _ c.coming.result (omega arith) (omega (arith, c.run_quiet-reached.ensures.within, c.requires.within)) c.turn_on.ensures.from (λ less. sym next ∙ c.coming.ensures.due less) in
+    call_row c.args.plan.now c.args.p c.args.to c.run_quiet-reached.result.steps c.run_quiet-reached.result.tick c.coming.result.start c.args.quiet.now.thread c.args.turn c.self.inside.tables c.self.inside.accounts.items
+    (part_at c.args.p c.run_quiet-reached.new.tables) _ c.run_quiet-reached.new.trace c.args.self.now c.is_plan.ensures c.self.view_is c.requires.coming (omega (arith, c.requires.order, c.requires.within))
+    (omega (arith, c.run_quiet-reached.ensures.within, c.requires.end)) later (λ k e. c.coming.ensures.before k (next ∙ (c.turn_on.ensures.next ∙ e)))
+    c.run_quiet-reached.ensures.gone (c.run_quiet-reached.ensures.last sooner)
 
 pub run_quiet-reached-requires-clause-near : goal.run_quiet-reached-requires-clause-near
 run_quiet-reached-requires-clause-near c =
