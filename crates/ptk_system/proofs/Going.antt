@@ -61,6 +61,8 @@ blocked_awaits active runs (Some thread) wait e = ap mutex_of_wait (blocked_by a
 -- the threads of a steady partition do what they did
 steady_does : (limits : Limits) (s after : Part) → IsWell limits s → IsSteady s after → DoTheSame s after
 steady_does limits s after well steady = record {
+  status = steady.status;
+  dropped = steady.dropped;
   activities = λ t.
       sym (activity_rest (is_active after.status) (is_running t after.running) no_registers (thread_at after.locks t))
       ∙ (ap (activity_of_number (is_active after.status) (is_running t after.running)) (steady.threads t no_registers)
@@ -91,6 +93,7 @@ going world p to is alone lt steady =
     let well : IsWell (section_at world.config p).limits (state_of world p).part = well_here world p is alone lt in
     record {
       threads = λ k le within. steady_does (section_at world.config p).limits (state_of world p).part (state_of (at_tick k world) p).part well (steady.parts k le within);
+      lost = λ k le within. steady.lost k le within ∙ ap (λ (w : World). (state_of w p).account.lost) (sym alone);
       steps = λ k le before more entry last.
           let behind : IsSteady (state_of world p).part (state_of (at_tick (k + 1) world) p).part = steady.parts (k + 1) (omega (arith, le)) (omega (arith, before)) in
           runs_activity (section_at world.config p).limits (state_of world p).part entry.thread well (sym behind.running ∙ steady.steps k le before more entry last);

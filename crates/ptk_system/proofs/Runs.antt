@@ -12,14 +12,16 @@ use Rattle.ptk_system_machine.specs.Kept.{Kept, limits_at, part_at}
 use Rattle.ptk_config.specs.Configuration.{Configuration, IsConfiguration}
 use Rattle.ptk_image.specs.NamedFiles.{NamedFile}
 use Rattle.ptk_system_machine.specs.Accounts.{IsBehind}
-use Rattle.ptk_system_machine.specs.Steady.{AreSteady, states_from}
+use Rattle.ptk_system_machine.specs.Steady.{AreSteady, IsStillBehindCall, states_from}
 use Rattle.ptk_system_machine.specs.Turns.{IsPlainAt}
 use Rattle.ptk_system_machine.specs.Whole.{Whole, AreWindowsOf, account_at, state_at}
+use Rattle.ptk_system_machine.proofs.LastCalls.{call_eq}
 use Rattle.ptk_system_machine.proofs.Steady.{steady_eq}
+use Rattle.ptk_system.specs.Going.{StaysBehindCall}
 use Rattle.ptk_system.specs.Missing.{image_in}
 use Rattle.ptk_system.specs.World.{IsRun, World, alone_in, at_tick, section_at, state_of, world_of}
 use Rattle.ptk_system.proofs.Bounds.{alone_behind}
-use Rattle.ptk_system.proofs.Keeping.{get_or-states_to, run_told, states_alone}
+use Rattle.ptk_system.proofs.Keeping.{get_or-states_to, run_told, state_kept, states_alone}
 
 -- the plan of a configuration is one
 pub is_plan : (config : Configuration) → IsConfiguration config → IsPlan config.plan
@@ -95,28 +97,43 @@ plain_told config files whole tick world run view plain q lt due =
     subst (λ (l : Limits). IsPlainAt l tick (part_at q whole.kept)) (sym (run.limits q within))
     (subst (λ (s : State). IsPlainAt (section_at config q).limits tick s.part) here at)
 
+-- the states that a partition of the system is in at later ticks are those that ticks of its own lead to in the tables
+states_told : (config : Configuration) (files : List NamedFile) (whole : Whole) (tick : ℕ) (plan : WindowPlan) (world : World) → IsRun config files whole tick → plan ≡ config.plan → world_of config files whole tick ≡ world
+    → (p : ℕ) → p < length world.config.sections → (k : ℕ) → tick ≤ k → state_of (at_tick k world) p ≡ states_from (own_ticks plan p) (limits_at p whole.kept) tick (state_at p whole) k
+states_told config files whole tick plan world run same view =
+    subst (λ (w : World). (p : ℕ) → p < length w.config.sections → (k : ℕ) → tick ≤ k → state_of (at_tick k w) p ≡ states_from (own_ticks plan p) (limits_at p whole.kept) tick (state_at p whole) k) view own
+  where
+    own : (p : ℕ) → p < length config.sections → (k : ℕ) → tick ≤ k → state_of (at_tick k (world_of config files whole tick)) p ≡ states_from (own_ticks plan p) (limits_at p whole.kept) tick (state_at p whole) k
+    own p lt k le =
+        get_or-states_to (λ q. alone_in config files q k) (length config.sections) p lt
+        ∙ (alone_to config files p tick k le
+        ∙ (ap (after_ticks (own_ticks config.plan p) (section_at config p).limits tick (k - tick)) (sym (run.each p lt))
+        ∙ (ap (λ (l : Limits). after_ticks (own_ticks config.plan p) l tick (k - tick) (state_at p whole)) (sym (run.limits p lt))
+        ∙ ap (λ (w : WindowPlan). after_ticks (own_ticks w p) (limits_at p whole.kept) tick (k - tick) (state_at p whole)) (sym same))))
+
+-- a partition of the system is one of the tables
+kept_of : (config : Configuration) (files : List NamedFile) (whole : Whole) (tick : ℕ) (world : World) (p : ℕ) → IsRun config files whole tick → world_of config files whole tick ≡ world → p < length world.config.sections → p < length whole.accounts
+kept_of config files whole tick world p run view lt = subst (λ (n : ℕ). p < n) (sym (subst (λ (w : World). length whole.accounts ≡ length w.config.sections) view run.parts)) lt
+
 -- ticks over which the threads of the tables stay as they are: so do those of the system
 pub run_steady : (config : Configuration) (files : List NamedFile) (whole : Whole) (tick t : ℕ) (plan : WindowPlan) (world : World) → IsRun config files whole tick → plan ≡ config.plan → world_of config files whole tick ≡ world
     → ((q : ℕ) → q < length whole.accounts → AreSteady (part_at q whole.kept) (states_from (own_ticks plan q) (limits_at q whole.kept) tick (state_at q whole)) tick t)
     → (p : ℕ) → p < length world.config.sections → AreSteady (state_of world p).part (λ (k : ℕ). state_of (at_tick k world) p) world.tick t
-run_steady config files whole tick t plan world run same view each =
-    subst (λ (w : World). (p : ℕ) → p < length w.config.sections → AreSteady (state_of w p).part (λ (k : ℕ). state_of (at_tick k w) p) w.tick t) view own
-  where
-    own : (p : ℕ) → p < length config.sections → AreSteady (state_of (world_of config files whole tick) p).part (λ (k : ℕ). state_of (at_tick k (world_of config files whole tick)) p) tick t
-    own p lt =
-        let within : p < length whole.accounts = subst (λ (n : ℕ). p < n) (sym run.parts) lt in
-        let here : state_of (world_of config files whole tick) p ≡ state_at p whole = get_or-states_to (λ q. state_at q whole) (length whole.accounts) p within in
-        let planned : AreSteady (part_at p whole.kept) (states_from (own_ticks config.plan p) (limits_at p whole.kept) tick (state_at p whole)) tick t =
-        subst (λ (w : WindowPlan). AreSteady (part_at p whole.kept) (states_from (own_ticks w p) (limits_at p whole.kept) tick (state_at p whole)) tick t) same (each p within) in
-        let limited : AreSteady (part_at p whole.kept) (states_from (own_ticks config.plan p) (section_at config p).limits tick (state_at p whole)) tick t =
-        subst (λ (l : Limits). AreSteady (part_at p whole.kept) (states_from (own_ticks config.plan p) l tick (state_at p whole)) tick t) (run.limits p lt) planned in
-        let seen : AreSteady (part_at p whole.kept) (λ (k : ℕ). state_of (at_tick k (world_of config files whole tick)) p) tick t =
-        steady_eq (part_at p whole.kept) (states_from (own_ticks config.plan p) (section_at config p).limits tick (state_at p whole)) (λ (k : ℕ). state_of (at_tick k (world_of config files whole tick)) p) tick t
-        (λ k le on.
-        get_or-states_to (λ q. alone_in config files q k) (length config.sections) p lt
-        ∙ (alone_to config files p tick k le
-        ∙ ap (after_ticks (own_ticks config.plan p) (section_at config p).limits tick (k - tick)) (sym (run.each p lt)))) limited in
-        subst (λ (s : State). AreSteady s.part (λ (k : ℕ). state_of (at_tick k (world_of config files whole tick)) p) tick t) (sym here) seen
+run_steady config files whole tick t plan world run same view each p lt =
+    let seen : AreSteady (part_at p whole.kept) (λ (k : ℕ). state_of (at_tick k world) p) tick t =
+    steady_eq (part_at p whole.kept) (states_from (own_ticks plan p) (limits_at p whole.kept) tick (state_at p whole)) (λ (k : ℕ). state_of (at_tick k world) p) tick t
+    (λ k le on. states_told config files whole tick plan world run same view p lt k le) (each p (kept_of config files whole tick world p run view lt)) in
+    subst (λ (s : State). AreSteady s.part (λ (k : ℕ). state_of (at_tick k world) p) world.tick t) (state_kept config files whole tick world run view p lt)
+    (subst (λ (from : ℕ). AreSteady (part_at p whole.kept) (λ (k : ℕ). state_of (at_tick k world) p) from t) (ap (λ (w : World). w.tick) view) seen)
+
+-- ticks over which nothing happens to a partition of the tables behind a call: nor does it in the system
+pub run_behind_call : (config : Configuration) (files : List NamedFile) (whole : Whole) (tick t : ℕ) (plan : WindowPlan) (world : World) → IsRun config files whole tick → plan ≡ config.plan → world_of config files whole tick ≡ world
+    → ((q : ℕ) → q < length whole.accounts → IsStillBehindCall (states_from (own_ticks plan q) (limits_at q whole.kept) tick (state_at q whole)) tick t)
+    → (p : ℕ) → p < length world.config.sections → StaysBehindCall world p t
+run_behind_call config files whole tick t plan world run same view each p lt =
+    subst (λ (from : ℕ). IsStillBehindCall (λ (k : ℕ). state_of (at_tick k world) p) from t) (ap (λ (w : World). w.tick) view)
+    (call_eq (states_from (own_ticks plan p) (limits_at p whole.kept) tick (state_at p whole)) (λ (k : ℕ). state_of (at_tick k world) p) tick t
+    (λ k le on. states_told config files whole tick plan world run same view p lt k le) (each p (kept_of config files whole tick world p run view lt)))
 
 -- the trace keeps what the section says
 pub trace_kept : (config : Configuration) (kept : Kept) (p count : ℕ) → count ≡ (limits_at p kept).trace → limits_at p kept ≡ (section_at config p).limits → count ≡ (section_at config p).limits.trace

@@ -5,7 +5,8 @@
 //!
 //! - `states_are_alone`, `two_worlds`, `idle_world`, `one_processor`, `decisions_are_own` and `steps_are_apart`: the
 //!   promises of separation, each with its clause in docs/GUARANTEES.md.
-//! - Over the ticks that `compute_to` and `call_to` go over each thread does what it did (`steady`: `GoesOnAsIs`).
+//! - Over the ticks that `compute_to` and `call_to` go over each thread does what it did (`steady`: `GoesOnAsIs`), and
+//!   a call that `call_to` goes over is the last that happens to its partition (`last`: `StaysBehindCall`).
 //!
 //! A system's value has the state that each partition is in, and every getter, the tables and the report are functions
 //! of it. The headline is the invariant of `System`, which `states_are_alone` states: after any ticks each partition's

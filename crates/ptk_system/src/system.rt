@@ -2,7 +2,7 @@
 
 ghost use Rattle.std.specs.Prelude.{◌≡◌, ◌<◌, ◌≤◌, ℕ, None, Some, IfOk, MatchResult, length, max};
 ghost use Rattle.ptk_words.specs.declared.TheConstants.{LAST_TICK};
-ghost use Rattle.ptk_system.specs.Going.{GoesOnAsIs};
+ghost use Rattle.ptk_system.specs.Going.{GoesOnAsIs, StaysBehindCall};
 ghost use Rattle.ptk_system.specs.Missing.{first_missing, missing_in};
 ghost use Rattle.ptk_system_machine.specs.Turns.{IsPlainAt};
 ghost use Rattle.ptk_system.specs.World.{at_tick, section_at, state_of, world_at};
@@ -90,7 +90,8 @@ impl<'a> System<'a> {
     /// Goes on over plain steps and quiet calls of the partition that decides next, to a tick of at most 2^40 that is
     /// not after `n`, and before any other decision. It stands still only where `n` was already reached, or where a
     /// decision at the tick reached is no plain step of a quiet partition. At each tick on the way each thread does
-    /// what it did at the first one, with the same priorities and the same owner of the mutex that it waits for.
+    /// what it did at the first one, with the same priorities and the same owner of the mutex that it waits for; no
+    /// tick is lost, no byte of input is dropped, and each partition's status is the same.
     pub fn compute_to(&mut self, n: Tick)
         requires { n ≤ LAST_TICK }
         ensures from { self.old.tick ≤ self.new.tick }
@@ -110,8 +111,8 @@ impl<'a> System<'a> {
     }
 
     /// Goes on as `compute_to` does, but over plain steps of one window at most and the quiet call behind them, which
-    /// is the last step. So whoever looks at the system sees each call by itself. At each tick on the way each thread
-    /// does what it did at the first one.
+    /// is the last step: up to the tick that is reached nothing happens to its partition behind it. So whoever looks at
+    /// the system sees each call by itself. At each tick on the way each thread does what it did at the first one.
     pub fn call_to(&mut self, n: Tick)
         requires { n ≤ LAST_TICK }
         ensures from { self.old.tick ≤ self.new.tick }
@@ -121,6 +122,7 @@ impl<'a> System<'a> {
             IsPlainAt (section_at self.old.config p).limits self.old.tick (state_of self.old p).part) → self.old.tick < self.new.tick }
         ensures run { self.new ≡ at_tick self.new.tick self.old }
         ensures steady { (p : ℕ) → p < length self.old.config.sections → GoesOnAsIs self.old p self.new.tick }
+        ensures last { (p : ℕ) → p < length self.old.config.sections → StaysBehindCall self.old p self.new.tick }
     {
         if n.ticks() <= self.tick.ticks() {
             return;

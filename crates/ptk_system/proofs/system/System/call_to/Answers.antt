@@ -3,7 +3,7 @@ use Rattle.ptk_words_windows.specs.Windows.{WindowPlan}
 use Rattle.ptk_system_machine.specs.Whole.{AreWindowsOf}
 use Rattle.ptk_system.specs.World.{World}
 use Rattle.ptk_system.proofs.Going.{here_going, run_going}
-use Rattle.ptk_system.proofs.Runs.{plain_told, run_behind, run_on, run_seen, windows_known}
+use Rattle.ptk_system.proofs.Runs.{plain_told, run_behind, run_behind_call, run_on, run_seen, windows_known}
 use Rattle.ptk_system.proofs.system.System.call_to.Goals as goal
 
 pub run_call-self-inside-requires-clause-windows : goal.run_call-self-inside-requires-clause-windows
@@ -42,3 +42,11 @@ returns-clause-steady c =
 
 pub returns-then-ticks-clause-steady : goal.returns-then-ticks-clause-steady
 returns-then-ticks-clause-steady c = here_going c.self.inside.config.now c.self.inside.files.now c.self.inside.machine c.self.inside.tick c.args.self.now c.self.invariant c.self.view_is
+
+pub returns-clause-last : goal.returns-clause-last
+returns-clause-last c =
+    run_behind_call c.self.inside.config.now c.self.inside.files.now c.self.inside.machine c.self.inside.tick c.run_call-self-inside.result c.plan-plan.result.now c.args.self.now c.self.invariant c.plan-plan.ensures.value c.self.view_is
+    c.run_call-self-inside.ensures.last
+
+pub returns-then-ticks-clause-last : goal.returns-then-ticks-clause-last
+returns-then-ticks-clause-last c = λ p lt k le less more entry last word. absurd (omega (arith, le, less))
