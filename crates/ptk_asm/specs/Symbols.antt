@@ -1,6 +1,8 @@
 -- The labels of a source as a symbol table, a line each (nm).
 use Rattle.std.specs.Prelude.{◌≡◌, ℕ, ◌-◌, Bool, false, List, [], ◌++◌, length, replicate, filter, flat_map, map, nat_lt, Some, option_map, Ok, codes, All, Contains, IsPermutation}
 use Rattle.std.specs.Fmt.{digits}
+use Rattle.std.specs.Str.{bytes_eq}
+use Rattle.std.specs.List.{IsDistinct}
 use Rattle.std.specs.List.Sorted.{IsSorted}
 use Rattle.std.specs.Ordering.{nat_cmp, ordering_then}
 use Rattle.std.specs.declared.cmp.Ordering.{Ordering}
@@ -16,7 +18,7 @@ use Rattle.ptk_asm_language.specs.Statements.{named}
 use Rattle.ptk_asm_language.specs.Source.{Layout, address_at, first_pass}
 use Rattle.ptk_asm.specs.declared.symbols.Symbol.{Symbol}
 use Rattle.ptk_asm.specs.Passing.{place_named}
-use Rattle.std.specs.HashMap.{HashMap}
+use Rattle.std.specs.HashMap.{HashMap, IsUnique}
 
 -- ---- a line
 
@@ -57,18 +59,27 @@ IsTable lengths labels text =
 abbrev pub AreFound : {S : Type 0} → HashMap (Bor (List ℕ)) Place S → Type 0
 AreFound labels = All (λ label. place_named labels label.0.now ≡ Some label.1) labels.entries
 
+-- no two labels of the code's map have one name (own)
+abbrev pub AreApart : {S : Type 0} → HashMap (Bor (List ℕ)) Place S → Type 0
+AreApart labels = IsUnique (λ (a b : Bor (List ℕ)). bytes_eq a.now b.now) labels
+
 -- ---- the table of a source
 
 -- the label is the one of its name in this layout, at its address (own)
 abbrev pub IsOf : Layout → Symbol → Type 0
 IsOf layout s = option_map (λ place. symbol_at layout.lengths (s.name, place)) (named layout.labels s.name.now) ≡ Some s
 
--- the text has a line for each label of the source, and no other, in order (nm)
+-- the two labels have one name (own)
+abbrev pub is_of_one_name : Symbol → Symbol → Bool
+is_of_one_name s u = bytes_eq s.name.now u.name.now
+
+-- the text has one line for each label of the source, and no other, in order (nm)
 pub record IsLabelTable (source text : List ℕ) : Type 0 where
   pub layout : Layout
   pub laid_out : first_pass [] (raw_lines source) ≡ Ok layout
   pub rows : List Symbol
   pub each : All (IsOf layout) rows
   pub every : (name : List ℕ) (place : Place) → named layout.labels name ≡ Some place → Contains (map (λ (s : Symbol). s.name.now) rows) name
+  pub once : IsDistinct is_of_one_name rows
   pub order : IsSorted order_of rows
   pub is : text ≡ flat_map symbol_line rows

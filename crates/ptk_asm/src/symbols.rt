@@ -3,7 +3,7 @@
 ghost use Rattle.std.specs.Prelude.{◌≡◌, ◌++◌, [], ◌∷◌, IfErr, IfOk, OnOk, flat_map, filter, if◌then◌else◌, map, string_bytes};
 ghost use Rattle.ptk_asm_language.specs.Source as definition;
 ghost use Rattle.ptk_asm.specs.Passing.{IsFirst};
-ghost use Rattle.ptk_asm.specs.Symbols.{AreFound, IsLabelTable, IsTable, is_ascii, letter_of, padded_hex, symbol_at, symbol_line};
+ghost use Rattle.ptk_asm.specs.Symbols.{AreApart, AreFound, IsLabelTable, IsTable, is_ascii, letter_of, padded_hex, symbol_at, symbol_line};
 
 use crate::fault::AsmFault;
 use crate::first_pass::first_pass;
@@ -34,7 +34,7 @@ impl<'a> Symbol<'a> {
     }
 }
 
-/// The labels of a source with their addresses, as `nm` prints symbols: a line each, by address, labels of one address
+/// The labels of a source with their addresses, as `nm` prints symbols: one line each, by address, labels of one address
 /// by name. The letter is `t` for one in the text, `d` in the data, `b` in the zeros behind it. `read_symbols` of
 /// `ptk_symbols` reads such a table. The error is the source's first fault where that is one of the first pass, as of
 /// `assemble`, or `Memory`, with line 0, where memory runs out.
@@ -61,6 +61,7 @@ const NO_MEMORY: AsmFault = AsmFault {
 fn table_of(alloc: Global, layout: &Layout<'_>) -> Result<String, AllocError>
     ensures table { IfOk result (λ table. IsTable layout.now.lengths layout.now.labels.entries (string_bytes table)) }
     ensures found { IfOk result (λ _. AreFound layout.now.labels) }
+    ensures apart { IfOk result (λ _. AreApart layout.now.labels) }
 {
     let mut symbols = symbols_of(alloc, layout)?;
     symbols.sort_by_key(|symbol| (symbol.address, symbol.name))?;
@@ -71,6 +72,7 @@ fn table_of(alloc: Global, layout: &Layout<'_>) -> Result<String, AllocError>
 fn symbols_of<'a>(alloc: Global, layout: &Layout<'a>) -> Result<Vec<Symbol<'a>>, AllocError>
     ensures symbols { IfOk result (λ symbols. symbols.items ≡ map (symbol_at layout.now.lengths) layout.now.labels.entries) }
     ensures found { IfOk result (λ _. AreFound layout.now.labels) }
+    ensures apart { IfOk result (λ _. AreApart layout.now.labels) }
 {
     let mut symbols = Vec::new(alloc);
     for (name, place) in layout.labels.iter() {

@@ -8,4 +8,4 @@ pub returns-in-Ok-clause-table : goal.returns-in-Ok-clause-table
 returns-in-Ok-clause-table c =
     let table = string_bytes c.in-Ok.table in
     subst (λ source. IsLabelTable source table) c.as_bytes.ensures.value
-    (label_table c.as_bytes.result.now table c.in_ok-layout.layout c.in_ok-layout.ensures.ok c.in-Ok.ensures.found c.in-Ok.ensures.table)
+    (label_table c.as_bytes.result.now table c.in_ok-layout.layout c.in_ok-layout.ensures.ok c.in-Ok.ensures.found c.in-Ok.ensures.apart c.in-Ok.ensures.table)

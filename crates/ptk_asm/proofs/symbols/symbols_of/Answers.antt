@@ -20,3 +20,6 @@ returns-clause-symbols c = search rules
 
 pub returns-clause-found : goal.returns-clause-found
 returns-clause-found c = c.iter-name-items.ensures.found
+
+pub returns-clause-apart : goal.returns-clause-apart
+returns-clause-apart c = c.iter-name-items.ensures.unique

@@ -14,3 +14,6 @@ returns-clause-table c =
 
 pub returns-clause-found : goal.returns-clause-found
 returns-clause-found c = IfOk-weaker c.text_of.result _ _ (λ table is. c.in_ok-symbols.ensures.found) c.text_of.ensures
+
+pub returns-clause-apart : goal.returns-clause-apart
+returns-clause-apart c = IfOk-weaker c.text_of.result _ _ (λ table is. c.in_ok-symbols.ensures.apart) c.text_of.ensures
