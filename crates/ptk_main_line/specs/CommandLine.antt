@@ -111,10 +111,11 @@ abbrev pub disasm : App
 disasm = with_rules (new_app (codes "disasm")) (required_word (codes "IMAGE") ∷ new_rule (codes "OUT")
     ∷ text_option (codes "symbols") ∷ [])
 
--- impact OLD NEW [--partition NAME] [--rename OLD=NEW[,OLD=NEW]...] [--format FORMAT] [--root DIR] (own)
+-- impact OLD NEW [--partition NAME] [--rename OLD=NEW[,OLD=NEW]...] [--format FORMAT] [--root DIR] [--old-root DIR] (own)
 abbrev pub impact : App
 impact = with_rules (new_app (codes "impact")) (required_word (codes "OLD") ∷ required_word (codes "NEW")
-    ∷ text_option (codes "partition") ∷ text_option (codes "rename") ∷ text_option (codes "format") ∷ text_option (codes "root") ∷ [])
+    ∷ text_option (codes "partition") ∷ text_option (codes "rename") ∷ text_option (codes "format") ∷ text_option (codes "root")
+    ∷ text_option (codes "old-root") ∷ [])
 
 -- explain FILE --ticks N --partition NAME [--symbols FILE] [--format FORMAT] [--root DIR] (own)
 abbrev pub explain : App

@@ -86,6 +86,7 @@ IsImpact rows o = HasText (codes "OLD") o.old.now rows
     × MayHaveText (codes "partition") o.partition rows
     × MayHaveText (codes "rename") o.rename rows
     × MayHaveText (codes "root") o.root rows
+    × MayHaveText (codes "old-root") o.old_root rows
 
 -- explain (own)
 abbrev pub IsExplain : List Row → ExplainOptions → Type 0

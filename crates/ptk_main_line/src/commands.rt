@@ -45,6 +45,27 @@ pub(crate) struct Argument {
     takes: Takes,
 }
 
+/// The folder of images, of every subcommand that reads a configuration.
+const ROOT: Argument = Argument {
+    name: "root",
+    help: help::ROOT,
+    takes: Takes::Text,
+};
+
+/// Whether a subcommand writes text or JSON.
+const FORMAT: Argument = Argument {
+    name: "format",
+    help: help::FORMAT,
+    takes: Takes::Text,
+};
+
+/// The symbols that name addresses.
+const SYMBOLS: Argument = Argument {
+    name: "symbols",
+    help: help::SYMBOLS,
+    takes: Takes::Text,
+};
+
 /// The arguments of every subcommand that runs a configuration.
 const RUNS: [Argument; 3] = [
     Argument {
@@ -57,11 +78,7 @@ const RUNS: [Argument; 3] = [
         help: help::TICKS,
         takes: Takes::RequiredTicks,
     },
-    Argument {
-        name: "root",
-        help: help::ROOT,
-        takes: Takes::Text,
-    },
+    ROOT,
 ];
 
 /// Those of `run` behind these.
@@ -86,11 +103,7 @@ const RUN: [Argument; 6] = [
         help: help::QUIET,
         takes: Takes::Nothing,
     },
-    Argument {
-        name: "format",
-        help: help::FORMAT,
-        takes: Takes::Text,
-    },
+    FORMAT,
     Argument {
         name: "explain",
         help: help::EXPLAIN_FAULT,
@@ -110,11 +123,7 @@ const TRACE: [Argument; 9] = [
         help: help::DECODE,
         takes: Takes::Nothing,
     },
-    Argument {
-        name: "symbols",
-        help: help::SYMBOLS,
-        takes: Takes::Text,
-    },
+    SYMBOLS,
     Argument {
         name: "thread",
         help: help::THREAD,
@@ -173,16 +182,8 @@ const EXPLAIN: [Argument; 3] = [
         help: help::PARTITION,
         takes: Takes::RequiredText,
     },
-    Argument {
-        name: "symbols",
-        help: help::SYMBOLS,
-        takes: Takes::Text,
-    },
-    Argument {
-        name: "format",
-        help: help::FORMAT,
-        takes: Takes::Text,
-    },
+    SYMBOLS,
+    FORMAT,
 ];
 
 /// Those of `stats` behind the arguments of a run.
@@ -192,11 +193,7 @@ const STATS: [Argument; 2] = [
         help: help::ONE_PARTITION,
         takes: Takes::Text,
     },
-    Argument {
-        name: "format",
-        help: help::FORMAT,
-        takes: Takes::Text,
-    },
+    FORMAT,
 ];
 
 /// The arguments of `asm`.
@@ -235,16 +232,8 @@ const CHECK: [Argument; 4] = [
         help: help::EXPLAIN,
         takes: Takes::Nothing,
     },
-    Argument {
-        name: "format",
-        help: help::FORMAT,
-        takes: Takes::Text,
-    },
-    Argument {
-        name: "root",
-        help: help::ROOT,
-        takes: Takes::Text,
-    },
+    FORMAT,
+    ROOT,
 ];
 
 /// The arguments of `disasm`.
@@ -259,15 +248,11 @@ const DISASM: [Argument; 3] = [
         help: help::TEXT,
         takes: Takes::FreeWord,
     },
-    Argument {
-        name: "symbols",
-        help: help::SYMBOLS,
-        takes: Takes::Text,
-    },
+    SYMBOLS,
 ];
 
 /// The arguments of `impact`.
-const IMPACT: [Argument; 6] = [
+const IMPACT: [Argument; 7] = [
     Argument {
         name: "OLD",
         help: help::OLD,
@@ -288,14 +273,11 @@ const IMPACT: [Argument; 6] = [
         help: help::RENAME,
         takes: Takes::Text,
     },
+    FORMAT,
+    ROOT,
     Argument {
-        name: "format",
-        help: help::FORMAT,
-        takes: Takes::Text,
-    },
-    Argument {
-        name: "root",
-        help: help::ROOT,
+        name: "old-root",
+        help: help::OLD_ROOT,
         takes: Takes::Text,
     },
 ];

@@ -189,7 +189,8 @@ Exit status:
 
 Example:
   ptk impact old.toml new.toml
-  ptk impact old.toml new.toml --partition control --rename pilot=control";
+  ptk impact old.toml new.toml --partition control --rename pilot=control
+  ptk impact 1/system.toml 2/system.toml --old-root 1 --root 2";
 
 /// A configuration's file.
 pub(crate) const CONFIGURATION: &str = "The configuration, a TOML document";
@@ -296,6 +297,10 @@ pub(crate) const EXPLAIN_SOURCE: &str = "Also print where and why the source is 
 /// The folder of the images.
 pub(crate) const ROOT: &str =
     "Look up images from this folder; from the working directory where it is left out";
+
+/// The folder of the old configuration's images.
+pub(crate) const OLD_ROOT: &str =
+    "Look up the images of OLD from this folder; from that of --root where it is left out";
 
 /// What `explain` does.
 pub(crate) const EXPLAIN_RUN: &str =

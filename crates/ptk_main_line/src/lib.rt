@@ -4,8 +4,7 @@
 //!
 //! - `read_line` returns a request only where clap's meaning of the command gives the words that subcommand and the
 //!   values of each of its options (`IsRun` to `IsExplain`), at most 2^40 ticks.
-//! - An error is of the kind with which clap refuses the words, or memory ran out, or clap takes the words and they ask
-//!   for nothing.
+//! - An error is of the kind that clap gives it, or memory ran out, or clap takes the words and they ask for nothing.
 //! - `not_text` and `one_file` are usage errors.
 //!
 //! `undecoded` is the error of a trace that is chosen from without words. Each command's options are a struct, pinned

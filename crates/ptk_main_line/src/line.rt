@@ -239,6 +239,7 @@ fn impact_in<'a>(found: &ArgMatches<'a>) -> Option<Request<'a>>
         rename: option_in(found, "rename"),
         format,
         root: option_in(found, "root"),
+        old_root: option_in(found, "old-root"),
     }))
 }
 

@@ -160,6 +160,8 @@ pub struct ImpactOptions<'a> {
     pub format: Format,
     /// The folder from which images are looked up; the working directory where it is not given.
     pub root: Option<&'a str>,
+    /// The folder from which the old configuration's images are looked up; that of `root` where it is not given.
+    pub old_root: Option<&'a str>,
 }
 
 /// The options of `explain`.
