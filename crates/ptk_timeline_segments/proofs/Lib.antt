@@ -2,7 +2,6 @@ pub mod LookBack
 pub mod Counting
 pub mod Lists
 pub mod Marking
-pub mod Came
 pub mod Bars
 pub mod OwnWindows
 pub mod Telling

@@ -22,8 +22,8 @@ use Rattle.ptk_timeline_segments.specs.declared.scale.Scale.{Scale}
 use Rattle.ptk_timeline_segments.specs.Histories.{history, is_begun, is_entry_of, is_stepping, last_begun, look_at, look_in, owner_for, raised_of, step_end, stepping}
 use Rattle.ptk_timeline_segments.specs.Lanes.{GoesOn, IsDue, IsLaneOf, IsThreadsRow}
 use Rattle.ptk_timeline_segments.specs.Rows.{IsRowOf}
-use Rattle.ptk_timeline_segments.proofs.Came.{seen_stays}
-use Rattle.ptk_timeline_segments.proofs.Marking.{Stays}
+use Rattle.ptk_timeline_segments.specs.Marked.{IsMarkedTo}
+use Rattle.ptk_timeline_segments.proofs.Marking.{IsUnhurt, Stays, marked_passes, marked_stays}
 use Rattle.ptk_timeline_segments.proofs.Telling.{end_sooner, look_same, none_begun, states_stay, steps_same}
 
 -- ---- looks
@@ -126,8 +126,7 @@ lane_passes world p from old new part is wide low before within steady scale mar
     few = omega (arith, count, is.few);
     threads = λ k. count ∙ is.threads k;
     scaled = ap (λ (m : Marked). m.scale) marked ∙ (is.scaled ∙ sym scale);
-    marks = λ one. let each : new.scale.each ≡ old.scale.each = ap (λ (s : Scale). s.each) scale in absurd (omega (arith, one, each, wide));
-    seen = seen_stays states old.due new.due old.marked new.marked marked (omega (arith, before, later)) is.seen;
+    marks = subst (IsMarkedTo states new.due) (sym marked) marks;
     rows = rows;
     ended = λ begun last sooner. ended begun (ap (λ (k : ℕ). last_begun states k (new.due - k)) (sym from_same) ∙ last) (omega (arith, sooner, to_same));
     steps = steps ∙ (ap (λ (s : State). s.account.steps) due.now ∙ sym (steps_same (states new.due) (states world.tick) (stays.same new.due later (omega arith))));
@@ -241,6 +240,24 @@ lane_passes world p from old new part is wide low before within steady scale mar
             omega (arith, over, before, later)
         by (inr after) (inl until) = end_passes begun until sooner (states (begun + 1)).account.next refl
         by (inr after) (inr late) = absurd (none_late begun is_one.2 late (omega (arith, is_one.0, is_one.1)))
+
+    -- nothing is lost up to the last of these ticks
+    unhurt : (k : ℕ) → old.due ≤ k → k ≤ world.tick → IsUnhurt (states old.due) (states k)
+    unhurt k after until =
+        let here : DoTheSame (states from).part (states old.due).part = steady.threads old.due low (omega (arith, before)) in
+        let there : DoTheSame (states from).part (states k).part = steady.threads k (omega (arith, low, after)) until in
+        record {
+          lost = steady.lost k (omega (arith, low, after)) until ∙ sym (steady.lost old.due low (omega (arith, before)));
+          dropped = there.dropped ∙ sym here.dropped;
+          status = there.status ∙ sym here.status;
+        }
+
+    marks : IsMarkedTo states new.due old.marked
+    marks =
+        let each : old.marked.scale.each ≡ old.scale.each = ap (λ (s : Scale). s.each) is.scaled in
+        let first : old.marked.scale.from ≡ old.scale.from = ap (λ (s : Scale). s.from) is.scaled in
+        marked_stays states world.tick new.due old.marked (omega (arith, first, is.from, before)) later stays
+        (marked_passes states old.due world.tick old.marked (omega (arith, each, wide)) (omega (arith, first, is.from)) (omega (arith, before)) unhurt is.marks)
 
     rows : (place : ℕ) (default : LaneRow) → place < length new.rows.items → IsThreadsRow ticks states new (place + 1) (get_or new.rows.items place default)
     rows place default lt = row (is.rows place default inside) (goes place default inside (omega (arith, inside, is.few)))

@@ -152,7 +152,7 @@ lane_tells : (ticks : OwnTicks) (states : ℕ → State) (scale : Scale) (lane :
 lane_tells ticks states scale lane same done is = record {
   threads = is.threads;
   rows = λ place default lt. row place (get_or lane.rows.items place default) (is.rows place default lt);
-  marks = marks_told states scale lane same is.scaled done is.marks is.seen.came;
+  marks = marks_told states scale lane same is.scaled done is.marks;
 }
   where
     row : (place : ℕ) (row : LaneRow) → IsThreadsRow ticks states lane (place + 1) row → TellsLooks (look_at ticks states scale.from (place + 1)) scale row

@@ -16,10 +16,9 @@ use Rattle.ptk_timeline_segments.specs.declared.row.LaneRow.{LaneRow}
 use Rattle.ptk_timeline_segments.specs.declared.scale.Scale.{Scale}
 use Rattle.ptk_timeline_segments.specs.Histories.{history, is_begun, is_entry_of, is_stepping, last_begun, look_at, look_in, sooner_of, step_end, stepping}
 use Rattle.ptk_timeline_segments.specs.Lanes.{GoesOn, IsDue, IsLaneOf, IsThreadsRow, StartsAs, busy_by, busy_of, is_busy}
-use Rattle.ptk_timeline_segments.specs.Marked.{BeginsAs, HasSeen, IsMarkedBy, IsMarkedTo}
+use Rattle.ptk_timeline_segments.specs.Marked.{BeginsAs, IsMarkedBy, IsMarkedTo}
 use Rattle.ptk_timeline_segments.specs.Rows.{IsRowOf}
-use Rattle.ptk_timeline_segments.proofs.Came.{seen_begins, seen_on}
-use Rattle.ptk_timeline_segments.proofs.Marking.{Stays, marked_begins, marked_on}
+use Rattle.ptk_timeline_segments.proofs.Marking.{Stays, marked_begins, marked_on, marked_stays}
 
 -- ---- ticks with which a partition stays
 
@@ -139,8 +138,7 @@ lane_on world p tick old new is at here before scale count steps due goes is_ste
     few = omega (arith, count, is.few);
     threads = λ k. count ∙ is.threads k;
     scaled = marked.scale ∙ (is.scaled ∙ sym scale);
-    marks = λ one. marks (ap (λ (s : Scale). s.each) (sym scale) ∙ one);
-    seen = seen;
+    marks = marks;
     rows = rows;
     ended = λ begun last sooner. ended begun (ap (λ (k : ℕ). last_begun states k (new.due - k)) (sym from_same) ∙ last) (omega (arith, sooner, to_same));
     steps = steps ∙ (ap (λ (s : State). s.account.steps) due.now ∙ (ap (λ (k : ℕ). (states k).account.steps) at ∙ sym (steps_same (states new.due) (states (tick + 1)) (stays.same new.due later (omega arith)))));
@@ -197,20 +195,16 @@ lane_on world p tick old new is at here before scale count steps due goes is_ste
     counted : old.steps ≡ (states tick).account.steps
     counted = is.steps ∙ ap (λ (k : ℕ). (states k).account.steps) (sym here)
 
-    seen : HasSeen states new.due new.marked
-    seen =
-        let to : old.marked.scale.to ≡ old.scale.to = ap (λ (s : Scale). s.to) is.scaled in
-        seen_on states tick new.due is_step old.marked new.marked (omega (arith, before, to)) later
-        (subst (λ (k : ℕ). HasSeen states k old.marked) (sym here) is.seen)
-        (subst (λ (s : State). IsMarkedBy tick is_step s old.marked new.marked) now marked)
-
-    marks : old.scale.each ≡ 1 → IsMarkedTo states new.due new.marked
-    marks one =
+    marks : IsMarkedTo states new.due new.marked
+    marks =
         let from : old.marked.scale.from ≡ old.scale.from = ap (λ (s : Scale). s.from) is.scaled in
-        marked_on states tick new.due is_step old.marked new.marked (ap (λ (s : Scale). s.each) is.scaled ∙ one) (omega (arith, from, is.from, here)) later stays
+        let to : old.marked.scale.to ≡ old.scale.to = ap (λ (s : Scale). s.to) is.scaled in
+        let kept : new.marked.scale.from ≡ old.marked.scale.from = ap (λ (s : Scale). s.from) marked.scale in
+        marked_stays states (tick + 1) new.due new.marked (omega (arith, kept, from, is.from, here)) later stays
+        (marked_on states tick is_step old.marked new.marked (omega (arith, from, is.from, here)) (omega (arith, to, before))
         (stepped ∙ (ap (λ (n : ℕ). nat_lt n (state_of world p).account.steps) counted ∙ ap (λ (s : State). nat_lt (states tick).account.steps s.account.steps) now))
-        (subst (λ (k : ℕ). IsMarkedTo states k old.marked) (sym here) (is.marks one))
-        (subst (λ (s : State). IsMarkedBy tick is_step s old.marked new.marked) now marked)
+        (subst (λ (k : ℕ). IsMarkedTo states k old.marked) (sym here) is.marks)
+        (subst (λ (s : State). IsMarkedBy tick is_step s old.marked new.marked) now marked))
 
     rows : (place : ℕ) (default : LaneRow) → place < length new.rows.items → IsThreadsRow ticks states new (place + 1) (get_or new.rows.items place default)
     rows place default lt = row (is.rows place default within) (goes place default within (omega (arith, within, is.few)))
@@ -249,12 +243,10 @@ lane_begins world p threads lane configured part stated at counted steps due sta
   few = omega (arith, counted);
   threads = λ k. whole ∙ threads_counted world p k configured part;
   scaled = begins.scaled;
-  marks = λ one.
-      marked_begins states (state_of world p) lane.scale lane.due lane.marked (omega (arith, later, at))
-      (record { same = λ k low high. due.stays k (omega (arith, low, at)) high }) begins;
-  seen =
-      seen_begins states lane.scale lane.due lane.marked (omega (arith, later, at))
-      (subst (λ (s : State). BeginsAs lane.scale s lane.marked) (due.now ∙ ap states at) begins);
+  marks =
+      let from : lane.marked.scale.from ≡ lane.scale.from = ap (λ (s : Scale). s.from) begins.scaled in
+      marked_stays states world.tick lane.due lane.marked (omega (arith, from, at)) later stays
+      (marked_begins states world.tick lane.scale lane.marked at (subst (λ (s : State). BeginsAs lane.scale s lane.marked) due.now begins));
   rows = λ place default lt. row place (get_or lane.rows.items place default) (starts place default lt);
   ended = λ begun last sooner. let never : last_begun states lane.scale.from (lane.due - lane.scale.from) ≡ None = none_so_far lane.due (omega arith) in absurd cc;
   steps = steps ∙ (ap (λ (s : State). s.account.steps) due.now ∙ sym (steps_same (states lane.due) (states world.tick) (stays.same lane.due later (omega arith))));

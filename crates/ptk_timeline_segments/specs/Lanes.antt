@@ -11,7 +11,7 @@ use Rattle.ptk_timeline_segments.specs.declared.scale.Scale.{Scale}
 use Rattle.ptk_timeline_segments.specs.declared.step.Busy.{Busy}
 use Rattle.ptk_timeline_segments.specs.declared.lane.Lane.{Lane}
 use Rattle.ptk_timeline_segments.specs.Histories.{history, last_begun, look_at, step_end, stepping}
-use Rattle.ptk_timeline_segments.specs.Marked.{HasSeen, IsMarkedTo}
+use Rattle.ptk_timeline_segments.specs.Marked.{IsMarkedTo}
 use Rattle.ptk_timeline_segments.specs.Rows.{HoldsOver, IsRowOf}
 
 -- the thread of the last step, with the tick behind it
@@ -40,7 +40,7 @@ pub record StartsAs (scale : Scale) (look : Look) (until : ℕ) (row : LaneRow) 
   pub counted : row.counted ≡ max scale.from (min until scale.to)
   pub right : (f : ℕ → Look) → HoldsOver f look scale.from row.counted → IsRowOf f row
 
--- up to the tick nothing of the partition changes but the tick of its next decision, and each such tick up to the scale's end is one up to it
+-- up to this tick nothing of the partition changes but the tick of its next decision, and it is no sooner than the first of that decision and the scale's end (own)
 pub record IsDue (world : World) (p : ℕ) (scale : Scale) (due : ℕ) : Type 0 where
   pub now : state_of world p ≡ history world p world.tick
   pub within : due ≤ scale.to
@@ -61,8 +61,7 @@ pub record IsLaneOf (ticks : OwnTicks) (states : ℕ → State) (lane : Lane) : 
   pub few : length lane.rows.items ≤ 32
   pub threads : (k : ℕ) → length lane.rows.items ≡ length (states k).part.threads
   pub scaled : lane.marked.scale ≡ lane.scale
-  pub marks : lane.scale.each ≡ 1 → IsMarkedTo states lane.due lane.marked
-  pub seen : HasSeen states lane.due lane.marked
+  pub marks : IsMarkedTo states lane.due lane.marked
   pub rows : (place : ℕ) (default : LaneRow) → place < length lane.rows.items → IsThreadsRow ticks states lane (place + 1) (slice_index_or lane.rows.items place default)
   pub ended : (begun : ℕ) → last_begun states lane.scale.from (lane.due - lane.scale.from) ≡ Some begun → lane.due < lane.scale.to → step_end ticks begun (states (begun + 1)) ≤ lane.due
   pub steps : lane.steps ≡ (states lane.due).account.steps

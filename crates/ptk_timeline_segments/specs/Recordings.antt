@@ -16,8 +16,7 @@ use Rattle.ptk_timeline_segments.specs.Cells.{IsCellOf}
 use Rattle.ptk_timeline_segments.specs.Columns.{columns_of, start_of}
 use Rattle.ptk_timeline_segments.specs.Histories.{history, look_at}
 use Rattle.ptk_timeline_segments.specs.Lanes.{IsLaneOf}
-use Rattle.ptk_timeline_segments.specs.Marked.{AllHaveCome}
-use Rattle.ptk_timeline_segments.specs.Marking.{marks_at}
+use Rattle.ptk_timeline_segments.specs.Marking.{marks_at, marks_in}
 
 -- each lane shows its partition, up to this tick or a later one
 pub record AreLanesOf (world : World) (scale : Scale) (tick : ℕ) (lanes : List Lane) : Type 0 where
@@ -32,12 +31,11 @@ pub record TellsLooks (look : ℕ → Look) (scale : Scale) (row : LaneRow) : Ty
   pub columns : (column : ℕ) (default : Cell) → start_of scale column < scale.to
       → IsCellOf look (start_of scale column) (start_of scale (column + 1)) (slice_index_or row.cells.items column default)
 
--- a lane has each column, with marks of what came by then, and where a column is a tick, the marks that the decisions of the picture make there
+-- a lane has each column, with the marks that the decisions of the picture make at its ticks: each that one of these has (own)
 pub record TellsMarks (states : ℕ → State) (scale : Scale) (lane : Lane) : Type 0 where
   pub count : length lane.marked.columns.items ≡ columns_of scale
-  pub came : AllHaveCome states scale lane.marked.columns.items
-  pub columns : scale.each ≡ 1 → (column : ℕ) (default : Marks) → scale.from + column < scale.to
-      → slice_index_or lane.marked.columns.items column default ≡ marks_at states scale.from (scale.to - scale.from) (scale.from + column)
+  pub columns : (column : ℕ) (default : Marks) → start_of scale column < scale.to
+      → slice_index_or lane.marked.columns.items column default ≡ marks_in (marks_at states scale (scale.to - scale.from)) scale column
 
 -- a lane has a row for each thread number of a partition with these own ticks and states, each row shows its thread, and the marks show what came
 pub record TellsLane (ticks : OwnTicks) (states : ℕ → State) (scale : Scale) (lane : Lane) : Type 0 where

@@ -14,10 +14,9 @@
 //! - A column of many ticks has the last look of the shade that held at most of them, the first of these at a draw, and
 //!   shows whether another held too (`IsCellOf`); over ticks that a picture passes by `System::compute_to` no look
 //!   changes (`IsPassed`).
-//! - Where a column is a tick, its marks are all that the decisions of the picture make there: a step begins, input is
-//!   lost, the partition halts, and each tick that is lost (`tells`: `TellsMarks`, `marks_at`).
-//! - Whatever the columns, a mark is of what came in the picture, by its column's last tick (`AllHaveCome`). That all
-//!   that came has a mark is said only where a column is a tick.
+//! - The marks of a column are those of its ticks together: it has each if and only if one of its ticks has it, by all
+//!   that the decisions of the picture make there (`tells`: `TellsMarks`, `marks_in`, `marks_at`): input is lost, the
+//!   partition halts, each tick that is lost, and, where a column is a tick, a step begins.
 //! - `LaneRow::bar_from` returns the column behind a bar, which is all columns of one look, owner and raised priority
 //!   included, and is as long as possible on both sides (`bar`: `IsBar`; `next`).
 //! - `next_window` returns the partition's next window, tick by tick as the plan has it there, and none only where no

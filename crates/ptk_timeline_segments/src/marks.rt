@@ -1,6 +1,6 @@
 //! What came in the columns of a lane.
 
-ghost use Rattle.std.specs.Prelude.{◌≡◌, ℕ, ◌+◌, ◌-◌, ◌/◌, ◌<◌, ◌≤◌, ◌&&◌, ◌||◌, IfOk, length, true};
+ghost use Rattle.std.specs.Prelude.{◌≡◌, ◌<◌, ◌≤◌, ◌&&◌, ◌||◌, IfOk, length};
 ghost use Rattle.ptk_words.specs.declared.TheConstants.{LAST_TICK};
 ghost use Rattle.ptk_system.specs.World.{state_of};
 ghost use Rattle.ptk_timeline_segments.specs.Columns.{columns_of, start_of};
@@ -15,7 +15,7 @@ use std::alloc::{AllocError, Global};
 /// What came in a column.
 #[derive(Clone, Copy, PartialEq, Eq)]
 pub struct Marks {
-    /// A step began; not known where a column is many ticks.
+    /// A step began; never where a column is many ticks.
     pub is_stepped: bool,
     /// Ticks were lost at a window's end.
     pub is_lost: bool,
@@ -65,7 +65,8 @@ fn together(a: bool, b: bool) -> bool
     a && b
 }
 
-/// What a decision brought: whether it was a step, lost input or halted the partition, and how many ticks it lost.
+/// What a decision brought: whether it was a step, where a column is a tick, lost input or halted the partition, and
+/// how many ticks it lost.
 #[derive(Clone, Copy)]
 pub(crate) struct Brought {
     pub(crate) is_stepped: bool,
@@ -101,8 +102,7 @@ pub(crate) struct Marked {
 }
 
 impl Marked {
-    ghost use Rattle.ptk_words_model.specs.State.{State};
-    ghost use Rattle.ptk_timeline_segments.specs.Marked.{AllHaveCome, AreMarked, BeginsAs, HaveCome, IsMarkedBy};
+    ghost use Rattle.ptk_timeline_segments.specs.Marked.{AreMarked, BeginsAs, IsMarkedBy, brought_to};
 
     /// No marks yet, with room for all columns. An error where memory ran out. No other call takes memory.
     pub(crate) fn new(
@@ -136,29 +136,35 @@ impl Marked {
         requires early { tick ≤ LAST_TICK }
         ensures { IsMarkedBy tick is_step (state_of system.now p) self.old self.new }
     {
+        let brought = self.brought_to(system, p, is_step);
+        self.add(&brought, tick);
         let (lost, dropped) = (system.lost(p), system.dropped(p));
         let is_active = !is_halted_now(system, p);
-        let brought = Brought {
-            is_stepped: is_step,
-            is_dropped: self.dropped < dropped,
-            is_halted: together(self.was_active, !is_active),
-            lost: lost.saturating_sub(self.lost),
-        };
-        self.add(&brought, tick);
         self.lost = lost;
         self.dropped = dropped;
         self.was_active = is_active;
+    }
+
+    /// What the decision that the system made last brought, a step or none.
+    fn brought_to(&self, system: &System<'_>, p: PartId, is_step: bool) -> Brought
+        requires { p < length system.now.config.sections }
+        ensures { result ≡ brought_to is_step self.now (state_of system.now p) }
+    {
+        let is_tick = self.scale.each() == 1;
+        Brought {
+            is_stepped: together(is_tick, is_step),
+            is_dropped: self.dropped < system.dropped(p),
+            is_halted: together(self.was_active, is_halted_now(system, p)),
+            lost: system.lost(p).saturating_sub(self.lost),
+        }
     }
 
     /// Marks the column of the tick, and those of the ticks that were lost.
     fn add(&mut self, brought: &Brought, tick: u64)
         requires { tick ≤ LAST_TICK }
         ensures scale { self.new.scale ≡ self.old.scale }
-        ensures columns { self.old.scale.each ≡ 1 → self.old.scale.from ≤ tick →
+        ensures columns { self.old.scale.from ≤ tick → tick < self.old.scale.to →
             AreMarked brought.now tick self.old.scale self.old.columns.items self.new.columns.items }
-        ensures came { (states : ℕ → State) → ((column : ℕ) → (tick - self.old.scale.from) / self.old.scale.each ≤ column
-            → HaveCome states self.old.scale.from (start_of self.old.scale (column + 1)) (marks_there brought.now true))
-            → AllHaveCome states self.old.scale self.old.columns.items → AllHaveCome states self.old.scale self.new.columns.items }
     {
         let first = self.scale.column_of(tick);
         let more = brought.lost.max(1) - 1;

@@ -1,6 +1,6 @@
 //! The lanes of all partitions.
 
-ghost use Rattle.std.specs.Prelude.{◌≡◌, ℕ, ◌+◌, ◌<◌, ◌≤◌, IfOk, length, max, slice_index_or};
+ghost use Rattle.std.specs.Prelude.{◌≡◌, ℕ, ◌+◌, ◌<◌, ◌≤◌, ◌⊎◌, IfErr, IfOk, length, max, slice_index_or};
 ghost use Rattle.ptk_words.specs.declared.TheConstants.{LAST_TICK};
 ghost use Rattle.ptk_system.specs.Going.{GoesOnAsIs};
 ghost use Rattle.ptk_system.specs.World.{at_tick};
@@ -33,6 +33,7 @@ impl Recording {
     ) -> Result<Recording, AllocError>
         requires { system.old.tick ≤ scale.from }
         ensures run { IfOk result (λ _. system.new ≡ at_tick scale.to system.old) }
+        ensures refused { IfErr result (λ _. (system.new ≡ at_tick scale.from system.old) ⊎ (system.new ≡ at_tick scale.to system.old)) }
         ensures scale { IfOk result (λ recording. recording.scale ≡ scale) }
         ensures tells { IfOk result (λ recording. TellsOf system.old recording) }
         ensures ended { IfOk result (λ recording. AreStatusesOf (at_tick scale.to system.old) recording.statuses.items) }
