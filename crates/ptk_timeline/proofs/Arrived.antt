@@ -8,8 +8,8 @@ use Rattle.std.proofs.lemmas.Bool.{false≢true}
 use Rattle.std.proofs.lemmas.Bool.Decides.{nat_tests}
 use Rattle.std.proofs.lemmas.List.Folds.{list_all_more}
 use Rattle.ptk_words.specs.declared.sections.Arrival.{Arrival}
-use Rattle.ptk_timeline_segments.specs.declared.scale.Scale.{Scale}
-use Rattle.ptk_timeline.specs.Layout.{place_of}
+use Rattle.ptk_timeline_rows.specs.Scale.{Scale}
+use Rattle.ptk_timeline_rows.specs.Layout.{place_of}
 use Rattle.ptk_timeline.specs.Marks.{arrived_text, is_in_picture, is_left_of, is_marked, is_right_of, numbered_arrival}
 use Rattle.ptk_timeline.proofs.Numbered.{all_numbered, numbered_more}
 

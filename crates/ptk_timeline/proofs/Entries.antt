@@ -3,9 +3,9 @@ use Rattle.std.proofs.Common.{◌≡◌, ℕ, ◌+◌, ◌*◌, ◌/◌, ◌%◌
 use Rattle.std.specs.Borrow.{Bor}
 use Rattle.std.specs.Io.KnownBytes.{Appends}
 use Rattle.std.proofs.lemmas.List.{get_or-map, length-map}
-use Rattle.ptk_timeline.specs.declared.layout.TheConstants.{LEFT}
+use Rattle.ptk_timeline_rows.specs.declared.layout.TheConstants.{LEFT}
 use Rattle.ptk_timeline.specs.declared.legend.TheConstants.{LINE}
-use Rattle.ptk_timeline.specs.Layout.{below, right_of}
+use Rattle.ptk_timeline_rows.specs.Layout.{below, right_of}
 use Rattle.ptk_timeline.specs.Legend.{entries_text, entry_text, numbered_entry}
 use Rattle.ptk_timeline.proofs.Numbered.{all_numbered, numbered_more}
 

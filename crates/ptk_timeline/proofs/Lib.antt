@@ -1,12 +1,8 @@
-pub mod Measures
-pub mod Written
+pub mod Axes
 pub mod GoesOn
 pub mod Spans
 pub mod Numbered
 pub mod Arrived
 pub mod Rounds
 pub mod Entries
-pub mod Drawn
-pub mod Alike
-pub mod Rowed
 pub mod Pictured

@@ -5,11 +5,11 @@ use Rattle.std.specs.List.{range_with_len}
 use Rattle.std.proofs.lemmas.Bool.{cases_lt}
 use Rattle.std.proofs.lemmas.Bool.Decides.{nat_tests}
 use Rattle.std.specs.Io.KnownBytes.{Appends}
-use Rattle.ptk_timeline_segments.specs.Windows.{OwnTicks, WindowPlan, own_ticks}
-use Rattle.ptk_timeline_segments.specs.OwnWindows.{AreOthers, IsNextWindow}
-use Rattle.ptk_timeline_segments.specs.declared.scale.Scale.{Scale}
-use Rattle.ptk_timeline_segments.specs.declared.windows.Span.{Span}
-use Rattle.ptk_timeline.specs.declared.layout.Place.{Place}
+use Rattle.ptk_timeline_rows.specs.Windows.{OwnTicks, WindowPlan, own_ticks}
+use Rattle.ptk_timeline_rows.specs.OwnWindows.{AreOthers, IsNextWindow}
+use Rattle.ptk_timeline_rows.specs.Scale.{Scale}
+use Rattle.ptk_timeline_rows.specs.Span.{Span}
+use Rattle.ptk_timeline_rows.specs.declared.layout.Place.{Place}
 use Rattle.ptk_timeline.specs.Windows.{end_begun, gaps_text, others_text, own_spans, shown_spans, span_at, spans_text, window_text}
 use Rattle.ptk_timeline.proofs.GoesOn.{IsAllBut, last_part, no_part, one_part}
 

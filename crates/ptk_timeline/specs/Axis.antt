@@ -3,10 +3,10 @@ use Rattle.std.specs.Prelude.{ℕ, ◌+◌, ◌-◌, ◌*◌, ◌/◌, ◌^◌, 
 use Rattle.std.specs.Int.{div_ceil}
 use Rattle.std.specs.List.{concat, range_with_len}
 use Rattle.ptk_words.specs.Names.{newline}
-use Rattle.ptk_timeline_segments.specs.declared.scale.Scale.{Scale}
-use Rattle.ptk_timeline.specs.declared.layout.TheConstants.{TOP}
+use Rattle.ptk_timeline_rows.specs.Scale.{Scale}
+use Rattle.ptk_timeline_rows.specs.declared.layout.TheConstants.{TOP}
 use Rattle.ptk_timeline.specs.declared.axis.TheConstants.{APART, MOST_DIGITS}
-use Rattle.ptk_timeline.specs.Layout.{column_width, place_of}
+use Rattle.ptk_timeline_rows.specs.Layout.{column_width, place_of}
 
 -- ---- the step
 

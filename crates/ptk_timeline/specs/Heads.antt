@@ -1,8 +1,8 @@
 -- The head of a lane.
 use Rattle.std.specs.Prelude.{ℕ, List, [], ◌∷◌, codes, decimal}
 use Rattle.std.specs.List.{concat}
-use Rattle.ptk_timeline_segments.specs.PartStatus.{PartStatus}
-use Rattle.ptk_timeline_segments.specs.Shown.{shown_status}
+use Rattle.ptk_timeline_rows.specs.PartStatus.{PartStatus}
+use Rattle.ptk_timeline_rows.specs.Shown.{shown_status}
 use Rattle.ptk_words.specs.Names.{newline}
 
 -- at a place the name of a partition, with its name and what it is as the text that a browser shows for it

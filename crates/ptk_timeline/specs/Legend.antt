@@ -3,11 +3,11 @@ use Rattle.std.specs.Prelude.{ℕ, ◌*◌, ◌/◌, ◌%◌, List, [], ◌∷�
 use Rattle.std.specs.List.{concat, enumerate_from}
 use Rattle.ptk_words.specs.Names.{newline}
 use Rattle.ptk_config.specs.Configuration.{Configuration}
-use Rattle.ptk_timeline_segments.specs.declared.scale.Scale.{Scale}
-use Rattle.ptk_timeline.specs.declared.layout.TheConstants.{LEFT}
+use Rattle.ptk_timeline_rows.specs.Scale.{Scale}
+use Rattle.ptk_timeline_rows.specs.declared.layout.TheConstants.{LEFT}
 use Rattle.ptk_timeline.specs.declared.legend.TheConstants.{LINE}
-use Rattle.ptk_timeline.specs.Layout.{are_windows_wide, below, right_of}
-use Rattle.ptk_timeline.specs.Shapes.{rect_text, words_text}
+use Rattle.ptk_timeline_rows.specs.Layout.{are_windows_wide, below, right_of}
+use Rattle.ptk_timeline_rows.specs.Shapes.{rect_text, words_text}
 
 -- that a column has this many ticks (own)
 abbrev pub each_text : ℕ → ℕ → List ℕ

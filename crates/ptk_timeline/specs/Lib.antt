@@ -1,13 +1,8 @@
-pub mod Layout
-pub mod Shapes
-pub mod Words
 pub mod Axis
 pub mod Plans
 pub mod Windows
 pub mod Marks
-pub mod Stretches
-pub mod Rows
 pub mod Legend
 pub mod Heads
 pub mod Picture
-pub use Rattle.ptk_timeline_starts.specs.Starts
+pub use Rattle.ptk_timeline_rows.specs.Starts

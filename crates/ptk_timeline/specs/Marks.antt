@@ -4,13 +4,13 @@ use Rattle.std.specs.List.{concat, enumerate_from, list_all}
 use Rattle.ptk_words.specs.Names.{newline}
 use Rattle.ptk_words.specs.declared.sections.Arrival.{Arrival}
 use Rattle.ptk_config.specs.Configuration.{Configuration}
-use Rattle.ptk_timeline_segments.specs.declared.lane.Lane.{Lane}
-use Rattle.ptk_timeline_segments.specs.declared.marks.Marks.{Marks}
-use Rattle.ptk_timeline_segments.specs.declared.scale.Scale.{Scale}
-use Rattle.ptk_timeline_segments.specs.World.{section_at}
-use Rattle.ptk_timeline.specs.declared.layout.Place.{Place}
-use Rattle.ptk_timeline.specs.Layout.{below, column_place, column_width, place_of}
-use Rattle.ptk_timeline.specs.Shapes.{rect_begin}
+use Rattle.ptk_timeline_rows.specs.Lane.{Lane}
+use Rattle.ptk_timeline_rows.specs.Marks.{Marks}
+use Rattle.ptk_timeline_rows.specs.Scale.{Scale}
+use Rattle.ptk_timeline_rows.specs.World.{section_at}
+use Rattle.ptk_timeline_rows.specs.declared.layout.Place.{Place}
+use Rattle.ptk_timeline_rows.specs.Layout.{below, column_place, column_width, place_of}
+use Rattle.ptk_timeline_rows.specs.Shapes.{rect_begin}
 
 -- ---- what came in a column
 
@@ -59,7 +59,7 @@ is_right_of (Some mark) x = nat_lt mark x
 abbrev pub is_marked : Scale → Option ℕ → ℕ → Bool
 is_marked scale last tick = is_in_picture scale tick && is_right_of last (place_of scale tick)
 
--- input that comes left of a place, if the picture has it
+-- the picture does not have the input, or it comes left of a place (own)
 abbrev pub is_left_of : Scale → ℕ → Arrival → Bool
 is_left_of scale x arrival = not (is_in_picture scale arrival.tick) || nat_lt (place_of scale arrival.tick) x
 

@@ -4,25 +4,25 @@ use Rattle.std.specs.List.{concat}
 use Rattle.ptk_words.specs.Names.{newline}
 use Rattle.ptk_config.specs.Configuration.{Configuration}
 use Rattle.ptk_config.specs.Sections.{Section}
-use Rattle.ptk_timeline_segments.specs.declared.lane.Lane.{Lane}
-use Rattle.ptk_timeline_segments.specs.declared.recording.Recording.{Recording}
-use Rattle.ptk_timeline_segments.specs.declared.scale.Scale.{Scale}
-use Rattle.ptk_timeline_segments.specs.Columns.{ticks_each}
-use Rattle.ptk_timeline_segments.specs.PartStatus.{PartStatus}
-use Rattle.ptk_timeline_segments.specs.Recordings.{AreStatusesOf, TellsOf}
-use Rattle.ptk_timeline_segments.specs.Windows.{Stage, WindowPlan}
-use Rattle.ptk_timeline_segments.specs.World.{World, at_tick}
-use Rattle.ptk_timeline.specs.declared.layout.Place.{Place}
-use Rattle.ptk_timeline.specs.declared.layout.TheConstants.{HEAD, LEFT, MOST_COLUMNS, TOP}
-use Rattle.ptk_timeline_starts.specs.declared.starts.Names.{Names}
+use Rattle.ptk_timeline_rows.specs.Lane.{Lane}
+use Rattle.ptk_timeline_rows.specs.Recording.{Recording}
+use Rattle.ptk_timeline_rows.specs.Scale.{Scale}
+use Rattle.ptk_timeline_rows.specs.Columns.{ticks_each}
+use Rattle.ptk_timeline_rows.specs.PartStatus.{PartStatus}
+use Rattle.ptk_timeline_rows.specs.Recordings.{AreStatusesOf, TellsOf}
+use Rattle.ptk_timeline_rows.specs.Windows.{Stage, WindowPlan}
+use Rattle.ptk_timeline_rows.specs.World.{World, at_tick}
+use Rattle.ptk_timeline_rows.specs.declared.layout.Place.{Place}
+use Rattle.ptk_timeline_rows.specs.declared.layout.TheConstants.{HEAD, LEFT, MOST_COLUMNS, TOP}
+use Rattle.ptk_timeline_rows.specs.Names.{Names}
 use Rattle.ptk_timeline.specs.Axis.{axis_lines}
 use Rattle.ptk_timeline.specs.Heads.{lane_head}
-use Rattle.ptk_timeline.specs.Layout.{below, lane_height, lanes_end, picture_height, picture_width}
+use Rattle.ptk_timeline_rows.specs.Layout.{below, lane_height, lanes_end, picture_height, picture_width}
 use Rattle.ptk_timeline.specs.Legend.{legend_text}
 use Rattle.ptk_timeline.specs.Marks.{marks_text}
 use Rattle.ptk_timeline.specs.Plans.{stage_text}
-use Rattle.ptk_timeline.specs.Rows.{AreRows}
-use Rattle.ptk_timeline_starts.specs.Starts.{routine_of}
+use Rattle.ptk_timeline_rows.specs.Rows.{AreRows}
+use Rattle.ptk_timeline_rows.specs.Starts.{routine_of}
 use Rattle.ptk_timeline.specs.Windows.{all_others_text, windows_text}
 
 -- ---- lanes

@@ -2,9 +2,9 @@
 use Rattle.std.specs.Prelude.{ℕ, ◌-◌, List, [], ◌∷◌, nat_lt, ◌&&◌, if◌then◌else◌, codes, decimal}
 use Rattle.std.specs.List.{concat}
 use Rattle.ptk_words.specs.Names.{newline}
-use Rattle.ptk_timeline_segments.specs.declared.scale.Scale.{Scale}
-use Rattle.ptk_timeline.specs.declared.layout.TheConstants.{TOP}
-use Rattle.ptk_timeline.specs.Layout.{place_of}
+use Rattle.ptk_timeline_rows.specs.Scale.{Scale}
+use Rattle.ptk_timeline_rows.specs.declared.layout.TheConstants.{TOP}
+use Rattle.ptk_timeline_rows.specs.Layout.{place_of}
 
 -- the line, this many pixels long, of a stage of the plan that begins at a tick (SVG, 9.3)
 abbrev pub plan_text : Scale → ℕ → ℕ → List ℕ

@@ -2,14 +2,14 @@
 use Rattle.std.specs.Prelude.{ℕ, ◌-◌, List, [], ◌∷◌, ◌++◌, ◌==◌, ◌||◌, nat_le, min, if◌then◌else◌, Option, Some, None, unwrap_or, codes, decimal, flat_map}
 use Rattle.std.specs.List.{concat, range_with_len}
 use Rattle.ptk_words.specs.Names.{newline}
-use Rattle.ptk_timeline_segments.specs.Windows.{OwnTicks, WindowPlan, own_ticks}
+use Rattle.ptk_timeline_rows.specs.Windows.{OwnTicks, WindowPlan, own_ticks}
 use Rattle.ptk_config.specs.Configuration.{Configuration}
-use Rattle.ptk_timeline_segments.specs.declared.scale.Scale.{Scale}
-use Rattle.ptk_timeline_segments.specs.declared.windows.Span.{Span}
-use Rattle.ptk_timeline.specs.declared.layout.Place.{Place}
-use Rattle.ptk_timeline.specs.declared.layout.TheConstants.{HEAD, LEFT}
-use Rattle.ptk_timeline.specs.Layout.{are_windows_wide, below, place_of, plot_width}
-use Rattle.ptk_timeline.specs.Shapes.{rect_begin, rect_text}
+use Rattle.ptk_timeline_rows.specs.Scale.{Scale}
+use Rattle.ptk_timeline_rows.specs.Span.{Span}
+use Rattle.ptk_timeline_rows.specs.declared.layout.Place.{Place}
+use Rattle.ptk_timeline_rows.specs.declared.layout.TheConstants.{HEAD, LEFT}
+use Rattle.ptk_timeline_rows.specs.Layout.{are_windows_wide, below, place_of, plot_width}
+use Rattle.ptk_timeline_rows.specs.Shapes.{rect_begin, rect_text}
 
 -- ---- the windows
 

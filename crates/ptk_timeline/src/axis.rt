@@ -4,8 +4,7 @@ ghost use Rattle.std.specs.Prelude.{◌≡◌, ◌<◌, OnOk};
 ghost use Rattle.std.specs.Io.KnownBytes.{Appends};
 ghost use Rattle.ptk_timeline.specs.Axis.{axis_lines, axis_text, number_at, number_text, round_from, step_of};
 
-use crate::layout::{TOP, column_width, place_of};
-use ptk_timeline_segments::Scale;
+use ptk_timeline_rows::{Scale, TOP, column_width, place_of};
 use std::io;
 use std::io::Write;
 

@@ -2,14 +2,12 @@
 
 ghost use Rattle.std.specs.Prelude.{◌≡◌, ◌*◌, ◌/◌, ◌%◌, ◌<◌, OnOk, map};
 ghost use Rattle.std.specs.Io.KnownBytes.{Appends};
-ghost use Rattle.ptk_timeline.specs.Layout.{below, right_of};
-ghost use Rattle.ptk_timeline.specs.Shapes.{words_text};
+ghost use Rattle.ptk_timeline_rows.specs.Layout.{below, right_of};
+ghost use Rattle.ptk_timeline_rows.specs.Shapes.{words_text};
 ghost use Rattle.ptk_timeline.specs.Legend.{columns_text, each_text, entries_text, entry_text, legend_text, mark_entries, narrow_text, shade_entries};
 
-use crate::layout::{LEFT, are_windows_wide};
-use crate::shapes::{Rect, write_rect, write_text};
 use ptk_config::Config;
-use ptk_timeline_segments::Scale;
+use ptk_timeline_rows::{LEFT, Rect, Scale, are_windows_wide, write_rect, write_text};
 use std::io;
 use std::io::Write;
 

@@ -3,14 +3,14 @@
 ghost use Rattle.std.specs.Prelude.{◌≡◌, [], IfOk, OnOk, Some, flat_map, if◌then◌else◌};
 ghost use Rattle.std.specs.Io.KnownBytes.{Appends};
 ghost use Rattle.std.specs.List.{enumerate_from};
-ghost use Rattle.ptk_timeline_segments.specs.World.{section_at};
-ghost use Rattle.ptk_timeline.specs.Layout.{below, column_width, place_of};
+ghost use Rattle.ptk_timeline_rows.specs.World.{section_at};
+ghost use Rattle.ptk_timeline_rows.specs.Layout.{below, column_width, place_of};
 ghost use Rattle.ptk_timeline.specs.Marks.{arrivals_text, arrived_text, column_marks, dropped_text, halted_text, is_in_picture, is_marked, is_right_of, lost_text, marks_text, numbered_marks};
 
-use crate::layout::{Place, column_place, column_width, place_of};
-use crate::shapes::{Rect, begin_rect};
 use ptk_config::Config;
-use ptk_timeline_segments::{Lane, Marks, Scale};
+use ptk_timeline_rows::{
+    Lane, Marks, Place, Rect, Scale, begin_rect, column_place, column_width, place_of,
+};
 use ptk_words::Arrival;
 use std::io;
 use std::io::Write;

@@ -3,24 +3,21 @@
 ghost use Rattle.std.specs.Prelude.{◌≡◌, ◌≤◌, ◌<◌, ◌+◌, ℕ, List, IfErr, IfOk, OnOk, length, slice_get, take};
 ghost use Rattle.std.specs.Io.KnownBytes.{Appends};
 ghost use Rattle.ptk_words.specs.declared.TheConstants.{LAST_TICK};
-ghost use Rattle.ptk_timeline_segments.specs.World.{at_tick};
+ghost use Rattle.ptk_timeline_rows.specs.World.{at_tick};
 ghost use Rattle.ptk_timeline.specs.Heads.{lane_head};
-ghost use Rattle.ptk_timeline.specs.Layout.{lanes_end};
+ghost use Rattle.ptk_timeline_rows.specs.Layout.{lanes_end};
 ghost use Rattle.ptk_timeline.specs.Picture.{AreLanes, IsLane, IsLaneFrom, IsPicture, IsPictureOf, before_lanes, behind_lanes, ground, opening, style, ticks_title};
 
 use crate::axis::write_axis;
-use crate::layout::{
-    GAP, HEAD, LEFT, MOST_COLUMNS, Place, TOP, lane_height, lanes_end, picture_height,
-    picture_width,
-};
 use crate::legend::write_legend;
 use crate::marks::write_marks;
 use crate::plans::write_plans;
-use crate::rows::write_rows;
 use crate::windows::{write_others, write_windows};
 use ptk_config::Config;
-use ptk_timeline_segments::{Lane, PartStatus, Recording, Scale, System};
-use ptk_timeline_starts::Names;
+use ptk_timeline_rows::{
+    GAP, HEAD, LEFT, Lane, MOST_COLUMNS, Names, PartStatus, Place, Recording, Scale, System, TOP,
+    lane_height, lanes_end, picture_height, picture_width, write_rows,
+};
 use ptk_words::Tick;
 use std::alloc::Global;
 use std::io;

@@ -4,8 +4,7 @@ ghost use Rattle.std.specs.Prelude.{◌-◌, ◌*◌, OnOk, flat_map};
 ghost use Rattle.std.specs.Io.KnownBytes.{Appends};
 ghost use Rattle.ptk_timeline.specs.Plans.{plan_text, stage_text};
 
-use crate::layout::{TOP, place_of};
-use ptk_timeline_segments::Scale;
+use ptk_timeline_rows::{Scale, TOP, place_of};
 use ptk_window::WindowPlan;
 use std::io;
 use std::io::Write;

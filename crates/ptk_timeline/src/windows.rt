@@ -2,13 +2,14 @@
 
 ghost use Rattle.std.specs.Prelude.{[], OnOk, if◌then◌else◌};
 ghost use Rattle.std.specs.Io.KnownBytes.{Appends};
-ghost use Rattle.ptk_timeline.specs.Layout.{are_windows_wide};
+ghost use Rattle.ptk_timeline_rows.specs.Layout.{are_windows_wide};
 ghost use Rattle.ptk_timeline.specs.Windows.{all_others_text, gap_text, gaps_text, ground_text, others_text, shown_spans, spans_text, window_text, windows_text};
 
-use crate::layout::{HEAD, LEFT, Place, are_windows_wide, place_of, plot_width};
-use crate::shapes::{Rect, begin_rect, write_rect};
 use ptk_config::Config;
-use ptk_timeline_segments::{Scale, Span, next_window};
+use ptk_timeline_rows::{
+    HEAD, LEFT, Place, Rect, Scale, Span, are_windows_wide, begin_rect, next_window, place_of,
+    plot_width, write_rect,
+};
 use ptk_window::WindowPlan;
 use std::io;
 use std::io::Write;

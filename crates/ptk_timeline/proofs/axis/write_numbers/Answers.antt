@@ -1,5 +1,5 @@
 use Rattle.std.proofs.Common.{◌≤◌, ◌/◌, ◌∙◌, arith}
-use Rattle.ptk_timeline.proofs.Written.{axis_more, axis_told, multiple_is}
+use Rattle.ptk_timeline.proofs.Axes.{axis_more, axis_told, multiple_is}
 use Rattle.ptk_timeline.proofs.axis.write_numbers.Goals as goal
 
 pub loop-k-preserved : goal.loop-k-preserved

@@ -2,7 +2,7 @@ use Rattle.std.proofs.Common.{ℕ, ◌++◌, subst}
 use Rattle.std.specs.Io.KnownBytes.{Appends}
 use Rattle.std.proofs.KnownBytes.{Appends-trans}
 use Rattle.std.proofs.lemmas.Result.{on_ok_weaker}
-use Rattle.ptk_timeline.specs.Layout.{below}
+use Rattle.ptk_timeline_rows.specs.Layout.{below}
 use Rattle.ptk_timeline.specs.Legend.{columns_text, entries_text, mark_entries, narrow_text, shade_entries}
 use Rattle.ptk_timeline.proofs.legend.write_legend.Goals as goal
 

@@ -2,7 +2,7 @@ use Rattle.std.proofs.Common.{[], ◌++◌}
 use Rattle.std.specs.Prelude.{if◌then◌else◌}
 use Rattle.std.proofs.KnownBytes.{Appends-trans}
 use Rattle.std.proofs.lemmas.Result.{on_ok_weaker}
-use Rattle.ptk_timeline.specs.Layout.{below, column_width}
+use Rattle.ptk_timeline_rows.specs.Layout.{below, column_width}
 use Rattle.ptk_timeline.specs.Marks.{dropped_text, halted_text, lost_text}
 use Rattle.ptk_timeline.proofs.marks.write_column.Goals as goal
 

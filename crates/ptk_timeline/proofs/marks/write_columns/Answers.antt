@@ -1,9 +1,9 @@
 use Rattle.std.proofs.Common.{◌≡◌, ℕ, ◌+◌, ◌<◌, List, Option, length, get_or, take, flat_map, subst}
 use Rattle.std.specs.List.{enumerate_from}
 use Rattle.std.specs.Io.KnownBytes.{Appends}
-use Rattle.ptk_timeline_segments.specs.declared.marks.Marks.{Marks}
-use Rattle.ptk_timeline_segments.specs.declared.scale.Scale.{Scale}
-use Rattle.ptk_timeline.specs.Layout.{column_place}
+use Rattle.ptk_timeline_rows.specs.Marks.{Marks}
+use Rattle.ptk_timeline_rows.specs.Scale.{Scale}
+use Rattle.ptk_timeline_rows.specs.Layout.{column_place}
 use Rattle.ptk_timeline.specs.Marks.{column_marks, numbered_marks}
 use Rattle.ptk_timeline.proofs.Numbered.{all_numbered, numbered_at}
 use Rattle.ptk_timeline.proofs.marks.write_columns.Goals as goal

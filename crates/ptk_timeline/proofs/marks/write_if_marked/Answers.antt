@@ -1,6 +1,6 @@
 use Rattle.std.proofs.Common.{◌≡◌, ◌∙◌, ℕ, Bool, true, cond, [], sym, subst}
 use Rattle.std.specs.Io.KnownBytes.{Appends}
-use Rattle.ptk_timeline.specs.Layout.{place_of}
+use Rattle.ptk_timeline_rows.specs.Layout.{place_of}
 use Rattle.ptk_timeline.specs.Marks.{arrived_text, is_marked}
 use Rattle.ptk_timeline.proofs.marks.write_if_marked.Goals as goal
 

@@ -3,9 +3,9 @@ use Rattle.std.specs.List.{enumerate_from}
 use Rattle.std.specs.Io.KnownBytes.{Appends}
 use Rattle.std.proofs.KnownBytes.{Appends-trans}
 use Rattle.std.proofs.lemmas.Result.{on_ok_weaker}
-use Rattle.ptk_timeline_segments.specs.declared.marks.Marks.{Marks}
-use Rattle.ptk_timeline_segments.specs.World.{section_at}
-use Rattle.ptk_timeline.specs.Layout.{below}
+use Rattle.ptk_timeline_rows.specs.Marks.{Marks}
+use Rattle.ptk_timeline_rows.specs.World.{section_at}
+use Rattle.ptk_timeline_rows.specs.Layout.{below}
 use Rattle.ptk_timeline.specs.Marks.{arrivals_text, numbered_marks}
 use Rattle.ptk_timeline.proofs.marks.write_marks.Goals as goal
 

@@ -1,7 +1,7 @@
 use Rattle.std.proofs.Common.{◌≡◌, ◌∙◌, ℕ, ◌+◌, ◌-◌, ◌<◌, ◌≤◌, ◌^◌, List, length, get_or, ap, min, subst}
-use Rattle.ptk_timeline_segments.specs.declared.lane.Lane.{Lane}
-use Rattle.ptk_timeline.specs.declared.layout.TheConstants.{GAP}
-use Rattle.ptk_timeline.proofs.Measures.{lanes_more}
+use Rattle.ptk_timeline_rows.specs.Lane.{Lane}
+use Rattle.ptk_timeline_rows.specs.declared.layout.TheConstants.{GAP}
+use Rattle.ptk_timeline_rows.proofs.Measures.{lanes_more}
 use Rattle.ptk_timeline.proofs.Pictured.{no_further_lane}
 use Rattle.ptk_timeline.proofs.picture.next_top.Goals as goal
 

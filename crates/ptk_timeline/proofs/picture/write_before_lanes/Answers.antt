@@ -2,7 +2,7 @@ use Rattle.std.proofs.Common.{ℕ, ◌++◌, subst}
 use Rattle.std.specs.Io.KnownBytes.{Appends}
 use Rattle.std.proofs.KnownBytes.{Appends-trans}
 use Rattle.std.proofs.lemmas.Result.{on_ok_weaker}
-use Rattle.ptk_timeline.specs.Layout.{picture_width}
+use Rattle.ptk_timeline_rows.specs.Layout.{picture_width}
 use Rattle.ptk_timeline.specs.Picture.{ground, opening, style, ticks_title}
 use Rattle.ptk_timeline.proofs.picture.write_before_lanes.Goals as goal
 

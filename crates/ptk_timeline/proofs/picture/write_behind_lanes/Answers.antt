@@ -5,7 +5,7 @@ use Rattle.std.specs.Io.KnownBytes.{Appends}
 use Rattle.std.proofs.KnownBytes.{Appends-trans}
 use Rattle.std.proofs.lemmas.Result.{on_ok_weaker}
 use Rattle.ptk_words.specs.Names.{newline}
-use Rattle.ptk_timeline_segments.specs.Windows.{WindowPlan}
+use Rattle.ptk_timeline_rows.specs.Windows.{WindowPlan}
 use Rattle.ptk_timeline.specs.Axis.{axis_lines}
 use Rattle.ptk_timeline.specs.Legend.{legend_text}
 use Rattle.ptk_timeline.specs.Picture.{plans_text}

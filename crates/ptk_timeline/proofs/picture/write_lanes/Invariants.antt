@@ -1,6 +1,6 @@
 use Rattle.std.proofs.Common.{◌≡◌, ℕ, List, take}
 use Rattle.std.specs.Io.KnownBytes.{Appends}
-use Rattle.ptk_timeline.specs.Layout.{lanes_end}
+use Rattle.ptk_timeline_rows.specs.Layout.{lanes_end}
 use Rattle.ptk_timeline.specs.Picture.{AreLanes}
 use Rattle.ptk_timeline.proofs.picture.write_lanes.Given as goal
 

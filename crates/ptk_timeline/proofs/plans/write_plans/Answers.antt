@@ -1,7 +1,7 @@
 use Rattle.std.proofs.Common.{ℕ, ◌<◌, ◌≤◌, ◌*◌, ◌∙◌, [], flat_map, length, subst, arith}
 use Rattle.std.specs.Io.KnownBytes.{Appends}
 use Rattle.ptk_timeline.specs.Plans.{stage_text}
-use Rattle.ptk_timeline.proofs.Written.{all_written, written_at}
+use Rattle.ptk_timeline_rows.proofs.Written.{all_written, written_at}
 use Rattle.ptk_timeline.proofs.plans.write_plans.Goals as goal
 
 pub loop-stage-preserved : goal.loop-stage-preserved

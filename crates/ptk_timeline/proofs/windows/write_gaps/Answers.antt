@@ -1,6 +1,6 @@
 use Rattle.std.proofs.Common.{ℕ, sym, subst}
 use Rattle.std.proofs.lemmas.Result.{on_ok_weaker}
-use Rattle.ptk_timeline_segments.specs.Windows.{own_ticks}
+use Rattle.ptk_timeline_rows.specs.Windows.{own_ticks}
 use Rattle.ptk_timeline.specs.Windows.{gaps_text, own_spans, shown_spans}
 use Rattle.ptk_timeline.proofs.GoesOn.{IsAllBut, nothing_yet}
 use Rattle.ptk_timeline.proofs.Spans.{gap_written, gaps_written}

@@ -1,5 +1,5 @@
 use Rattle.std.proofs.Common.{◌-◌}
-use Rattle.ptk_timeline_segments.specs.Windows.{own_ticks}
+use Rattle.ptk_timeline_rows.specs.Windows.{own_ticks}
 use Rattle.ptk_timeline.specs.Windows.{gaps_text, own_spans, shown_spans}
 use Rattle.ptk_timeline.proofs.GoesOn.{IsAllBut}
 use Rattle.ptk_timeline.proofs.windows.write_gaps.Given as goal

@@ -1,5 +1,5 @@
 use Rattle.std.proofs.Common.{ℕ, flat_map, sym, subst}
-use Rattle.ptk_timeline_segments.specs.Windows.{own_ticks}
+use Rattle.ptk_timeline_rows.specs.Windows.{own_ticks}
 use Rattle.ptk_timeline.specs.Windows.{own_spans, spans_text, window_text}
 use Rattle.ptk_timeline.proofs.GoesOn.{IsAllBut, nothing_yet}
 use Rattle.ptk_timeline.proofs.Spans.{window_written, windows_written}

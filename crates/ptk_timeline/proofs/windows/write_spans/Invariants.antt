@@ -1,5 +1,5 @@
 use Rattle.std.proofs.Common.{◌-◌, flat_map}
-use Rattle.ptk_timeline_segments.specs.Windows.{own_ticks}
+use Rattle.ptk_timeline_rows.specs.Windows.{own_ticks}
 use Rattle.ptk_timeline.specs.Windows.{own_spans, spans_text, window_text}
 use Rattle.ptk_timeline.proofs.GoesOn.{IsAllBut}
 use Rattle.ptk_timeline.proofs.windows.write_spans.Given as goal

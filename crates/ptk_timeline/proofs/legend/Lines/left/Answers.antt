@@ -1,6 +1,6 @@
 use Rattle.std.proofs.Common.{◌≡◌, ◌∙◌, ℕ, ◌+◌, ◌-◌, ◌*◌, ◌%◌, ◌^◌, min, ap, arith}
-use Rattle.ptk_timeline.specs.declared.layout.TheConstants.{LEFT}
-use Rattle.ptk_timeline.specs.Layout.{right_of}
+use Rattle.ptk_timeline_rows.specs.declared.layout.TheConstants.{LEFT}
+use Rattle.ptk_timeline_rows.specs.Layout.{right_of}
 use Rattle.ptk_timeline.proofs.legend.Lines.left.Goals as goal
 
 -- pixels that 64 bits hold, and the room at the left

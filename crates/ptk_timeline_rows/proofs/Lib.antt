@@ -1,0 +1,5 @@
+pub mod Measures
+pub mod Written
+pub mod Drawn
+pub mod Alike
+pub mod Rowed
