@@ -5,16 +5,16 @@ use Rattle.ptk_words_model.specs.State.{State}
 use Rattle.ptk_main_runs.specs.Steps.{step_end}
 use Rattle.ptk_timeline_changes.specs.declared.step.Step.{Step}
 
--- the thread of the last step, with the tick behind it
+-- the thread of the last step, with the tick behind it (own)
 abbrev pub step_by : ℕ → Option Entry → Option Step
 step_by until None = None
 step_by until (Some entry) = Some (record { thread = entry.thread; until = until })
 
--- the step that takes up the ticks from this one on, of a partition that had made this many steps: its last one, and none where it has made none since
+-- the step that takes up the ticks from this one on, of a partition that had made this many steps: its last one, and none where it has made none since (own)
 abbrev pub step_since : ℕ → ℕ → ℕ → State → Option Step
 step_since steps tick end s = if nat_lt steps s.account.steps then step_by (step_end tick end s) s.part.last else None
 
--- as `step_since`, and none at the window's end
+-- that step; none where the tick is the window's end (own)
 abbrev pub step_within : ℕ → ℕ → ℕ → State → Option Step
 step_within steps tick end s = if tick == end then None else step_since steps tick end s
 

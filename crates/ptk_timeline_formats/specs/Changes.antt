@@ -19,11 +19,11 @@ text_behind_first Events = []
 abbrev pub tick_line : ℕ → List ℕ
 tick_line tick = concat (codes "#" ∷ decimal tick ∷ newline ∷ [])
 
--- lines of a tick, behind a line of tick `at`: first the line of the tick, where it is later (IEEE 1364-2005, 18.2.1)
+-- lines of a tick, behind the line of a tick: first the line of the tick, where it is later (IEEE 1364-2005, 18.2.1)
 abbrev pub lines_at : ℕ → ℕ → List ℕ → List ℕ
 lines_at at tick lines = (if nat_lt at tick then tick_line tick else []) ++ lines
 
--- what a dump has of a change at a tick, whose last line is of tick `at` (IEEE 1364-2005, 18.2.1)
+-- what a dump has of a change at a tick, whose last line is of an earlier tick or of this one (IEEE 1364-2005, 18.2.1)
 abbrev pub change_lines : ℕ → ℕ → ℕ → Change → List ℕ
 change_lines at tick p change = if is_signal change then lines_at at tick (value_lines p change) else []
 
@@ -41,7 +41,7 @@ abbrev pub tick_behind_if : ℕ → ℕ → Option Change → ℕ
 tick_behind_if at tick None = at
 tick_behind_if at tick (Some change) = tick_behind at tick change
 
--- what a dump has of changes at a tick, in their order, whose last line before them is of tick `at`; nothing of a place without a change (IEEE 1364-2005, 18.2.1)
+-- what a dump has of changes at a tick, in their order, whose last line before them is of an earlier tick or of this one; nothing of a place without a change (IEEE 1364-2005, 18.2.1)
 abbrev pub changes_lines : ℕ → ℕ → ℕ → List (Option Change) → List ℕ
 changes_lines at tick p [] = []
 changes_lines at tick p (change ∷ rest) = lines_if at tick p change ++ changes_lines (tick_behind_if at tick change) tick p rest

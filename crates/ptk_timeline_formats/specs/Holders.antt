@@ -17,7 +17,7 @@ opened p tick (Some holder) = if holder.partition == p then holder else record {
 
 -- ---- a dump
 
--- what a dump has of the end of the window that is open, behind a line of tick `at` (own)
+-- what a dump has of the end of the window that is open, behind the line of a tick (own)
 abbrev pub closing_lines : ℕ → ℕ → Option Holder → List ℕ
 closing_lines at tick None = []
 closing_lines at tick (Some holder) = change_lines at tick holder.partition (WindowEnds holder.since)

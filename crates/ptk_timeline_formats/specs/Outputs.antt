@@ -61,7 +61,7 @@ same_doing = (doing_eq.ghosts).eq
 
 -- ---- a partition
 
--- what is written at a tick of a partition that was shown so and is now in this state, by a dump behind a line of tick `at`: of what is not the same, the status, the running thread and the threads (own)
+-- what is written at a tick of a partition that was shown so and is now in this state, by a dump behind the line of a tick: of what is not the same, the status, the running thread and the threads (own)
 abbrev pub look_text : Output → Option Step → Part → ℕ → ℕ → ℕ → PartView → List ℕ
 look_text Dump step s at tick p view = part_text same_status same_runner same_thread step s at tick p view
 look_text (EventList symbols) step s at tick p view = part_events same_status same_runner same_thread same_doing symbols step s p tick view

@@ -65,7 +65,7 @@ pub record Scene : Type 0 where
   pub at : ℕ
   pub view : PartView
 
--- from a tick at which something of a partition can change to the next in a window: the decision at the tick is made and shown, with what is lost; then plain steps are made, over which each thread does what it did, and the last is shown; then nothing changes up to the next such tick (own)
+-- from a tick at which something of a partition can change to the next in a window, which is not before the system's tick: the decision at the tick is made and shown, with what is lost; then plain steps are made up to the window's end at most, over which each thread does what it did, and the last is shown; then nothing changes up to the next such tick (own)
 pub record IsStretch (output : Output) (p end : ℕ) (before after : Scene) (lines : List ℕ) : Type 0 where
   pub first : World
   pub decided : PartView
@@ -79,7 +79,11 @@ pub record IsStretch (output : Output) (p end : ℕ) (before after : Scene) (lin
   pub decides : first ≡ at_tick (max before.world.tick (before.due + 1)) before.world
   pub decision : IsLook output p (step_since before.view.steps before.due end (state_of first p)) (state_of first p).part before.due before.at decided_at before.view decided of_decision
   pub kept : decided ≡ kept_in (step_since before.view.steps before.due end (state_of first p)) (state_of first p) decided
+  pub later : before.due < after.due
   pub goes_on : after.world ≡ at_tick after.world.tick first
+  pub on : first.tick ≤ after.world.tick
+  pub within : after.world.tick ≤ max first.tick end
+  pub behind : min after.world.tick end ≤ after.due
   pub steady : GoesOnAsIs first p after.world.tick
   pub step : IsStepShown output p (tick_behind_step before.due decided.step) (state_of after.world p) decided_at stepped_at decided stepped of_step
       (step_within decided.steps (tick_behind_step before.due decided.step) end (state_of after.world p))
@@ -95,6 +99,8 @@ pub data AreStretches (output : Output) (p end : ℕ) (from : Scene) : Scene →
 -- over a window of a partition, or the part of one, from a tick up to another: nothing changes up to the first tick at which something can, and from there on stretch follows stretch up to the end (own)
 pub record IsWindow (output : Output) (p from end : ℕ) (world later : World) (at reached : ℕ) (before after : PartView) (lines : List ℕ) : Type 0 where
   pub first : ℕ
+  pub begins : from ≤ first
+  pub ends : first ≤ end
   pub still : (k : ℕ) → world.tick ≤ k → from < k → k ≤ first → but_next (state_of (at_tick k world) p) ≡ but_next (state_of world p)
   pub goes : AreStretches output p end (record { world = world; due = first; at = at; view = record before { step = None } }) (record { world = later; due = end; at = reached; view = after }) lines
 

@@ -21,7 +21,7 @@ use Rattle.ptk_timeline_formats.specs.Views.{runner_shown, status_shown}
 abbrev pub shown_lines : ℕ → ℕ → Shown → Shown → List ℕ
 shown_lines p t before shown = if is_free before.doing then state_line p t shown ++ priority_line p t shown else thread_lines p t before shown
 
--- what a dump has at a tick of a thread that was shown so before, behind a line of tick `at`: nothing where it is shown so still, else its lines (own)
+-- what a dump has at a tick of a thread that was shown so before, behind the line of a tick: nothing where it is shown so still, else its lines (own)
 abbrev pub thread_text : Bool → ℕ → ℕ → ℕ → ℕ → Shown → Shown → List ℕ
 thread_text is_same at tick p t before shown = if is_same then [] else lines_at at tick (shown_lines p t before shown)
 
@@ -43,7 +43,7 @@ part_changes same_status same_runner step s view =
     then_some (not (same_status (status_shown step s) view.status)) (Status (status_shown step s))
     ∷ then_some (not (same_runner (runner_shown step s) view.runner)) (Runner (runner_shown step s)) ∷ []
 
--- what a dump has at a tick of a partition that was shown so and is now in this state, behind a line of tick `at`: of what is not the same, the status, the running thread and the threads (own)
+-- what a dump has at a tick of a partition that was shown so and is now in this state, behind the line of a tick: of what is not the same, the status, the running thread and the threads (own)
 abbrev pub part_text : (PartStatus → PartStatus → Bool) → (Option ThreadNumber → Option ThreadNumber → Bool) → (Shown → Shown → Bool) → Option Step → Part → ℕ → ℕ → ℕ → PartView → List ℕ
 part_text same_status same_runner same step s at tick p view =
     changes_lines at tick p (part_changes same_status same_runner step s view)

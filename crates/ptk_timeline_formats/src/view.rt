@@ -438,6 +438,7 @@ fn due_behind(system: &System<'_>, p: PartId, begin: u64, end: u64) -> u64
     requires order { begin ≤ end }
     ensures from { begin ≤ result }
     ensures to { result ≤ end }
+    ensures behind { min system.now.tick end ≤ result }
     ensures still { (k : ℕ) → system.now.tick < k → begin < k → k ≤ result →
         but_next (state_of (at_tick k system.now) p) ≡ but_next (state_of system.now p) }
 {

@@ -45,6 +45,8 @@ returns-clause-text g c =
       goes.1,
       record {
         first = c.due-tick.result;
+        begins = c.due-tick.ensures.from;
+        ends = c.due-tick.ensures.to;
         still = c.due-tick.ensures.stays;
         goes = subst (λ (due : ℕ). AreStretches (output_of c.args.sheet.now.form c.args.sheet.now.symbols.now) c.args.p c.args.end first (record { world = c.loop-tick.system; due = due; at = c.loop-tick.sheet.at; view = c.loop-tick.self }) goes.0) last goes.2;
       },

@@ -59,7 +59,11 @@ returns-clause-text g c =
         decides = goes;
         decision = record { written = refl; last = λ is. c.in_ok-decide.ensures.reached (sym (form_kept form symbols) ∙ is); threads = c.in_ok-decide.ensures.shown; since = c.in_ok-decide.ensures.since; count = c.decide.ensures.count };
         kept = c.in_ok-decide.ensures.kept;
+        later = omega (arith, c.in_ok-begin.ensures.begin, c.due_behind-next.ensures.from);
         goes_on = c.compute_to.ensures.run;
+        on = c.compute_to.ensures.from;
+        within = omega (arith, c.compute_to.ensures.within, c.new-2.ensures);
+        behind = c.due_behind-next.ensures.behind;
         steady = c.compute_to.ensures.steady p within;
         step = step.2;
         over = end.2;
