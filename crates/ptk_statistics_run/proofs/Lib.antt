@@ -3,4 +3,8 @@ pub mod Sums
 pub mod Gathering
 pub mod Parts
 pub mod Stretches
+pub mod Calls
+pub mod LastSteps
+pub mod CountedCalls
+pub mod CountedRuns
 pub use Rattle.ptk_main_runs.proofs.Sent

@@ -4,7 +4,7 @@ use Rattle.std.specs.List.{position_or_len}
 use Rattle.std.specs.Prelude.{MatchBool}
 use Rattle.std.proofs.lemmas.Bool.{and_parts, cases_eq, eq-eqb, eqb-true, false≢true, le-ltb, lt-ltb, ltb-true, or_cases, or_parts}
 use Rattle.std.proofs.lemmas.List.Sums.{position_or_len_is}
-use Rattle.ptk_main_runs.specs.Going.{GoesOnAsIs}
+use Rattle.ptk_main_runs.specs.Going.{GoesOnAsIs, StaysBehindCall}
 use Rattle.ptk_main_runs.specs.World.{World, at_tick, but_next, state_of}
 use Rattle.ptk_statistics_figures.specs.declared.doing.Doing.{Doing}
 use Rattle.ptk_statistics_run.specs.declared.part.PartStatistics.{PartStatistics}
@@ -48,27 +48,34 @@ pub alone_again : (first now : World) (n : ℕ) → now ≡ at_tick n first → 
 alone_again first now n goes = goes ∙ (sym (ap (at_tick n) goes) ∙ ap (λ (k : ℕ). at_tick k now) (sym (ap (λ (w : World). w.tick) goes)))
 
 -- the tick that a system goes on to while nothing changes
-pub still_to : (world : World) (to until next : ℕ) → world ≡ at_tick world.tick world → world.tick ≤ to → next ≡ max world.tick until → IsStillTo world to until → IsStillTo world to next
-still_to world to until next alone early goes still =
+pub still_to : (world : World) (to until next : ℕ) → world ≡ at_tick world.tick world → world.tick ≤ to → next ≡ max world.tick until → until ≤ to
+    → ((p : ℕ) → p < length world.config.sections → (k : ℕ) → world.tick ≤ k → k ≤ until → but_next (state_of (at_tick k world) p) ≡ but_next (state_of world p))
+    → ((k : ℕ) → k ≤ to
+    → ((p : ℕ) → p < length world.config.sections → (j : ℕ) → world.tick ≤ j → j ≤ k → but_next (state_of (at_tick j world) p) ≡ but_next (state_of world p)) → k ≤ until)
+    → IsStillTo world to next
+still_to world to until next alone early goes within stay latest =
     let at_once : (p : ℕ) → but_next (state_of (at_tick world.tick world) p) ≡ but_next (state_of world p) = λ p. ap (λ (w : World). but_next (state_of w p)) (sym alone) in
     let reach : world.tick ≤ until =
-    still.latest world.tick early
+    latest world.tick early
     (λ p lt j from on.
     let same : j ≡ world.tick = omega (arith, from, on) in
     ap (λ (k : ℕ). but_next (state_of (at_tick k world) p)) same ∙ at_once p) in
     let same : until ≡ next = omega (arith, goes, reach) in
+    let still : IsStillTo world to until = record { from = reach; within = within; stay = stay; latest = latest } in
     subst (IsStillTo world to) same still
 
 -- ---- a row
 
 -- up to the tick of a system that is looked at behind it
 pub row_to : (world now : World) (to : ℕ) (before behind : List PartStatistics) → is_running_at world ≡ true → world.tick ≤ now.tick → now.tick ≤ to → now ≡ at_tick now.tick world
-    → ((p : ℕ) → p < length world.config.sections → GoesOnAsIs world p now.tick) → AreBehindRows now before behind → IsRow world to now.tick before behind
-row_to world now to before behind running from within goes steady rows = record {
+    → ((p : ℕ) → p < length world.config.sections → GoesOnAsIs world p now.tick) → ((p : ℕ) → p < length world.config.sections → StaysBehindCall world p now.tick)
+    → AreBehindRows now before behind → IsRow world to now.tick before behind
+row_to world now to before behind running from within goes steady last rows = record {
   running = running;
   from = from;
   within = within;
   steady = steady;
+  last = last;
   behind = subst (λ (w : World). AreBehindRows w before behind) goes rows;
 }
 

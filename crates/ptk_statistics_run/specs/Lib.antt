@@ -3,6 +3,7 @@ pub mod Parts
 pub mod Observations
 pub mod Gathering
 pub mod Stretches
+pub mod Calls
 pub use Rattle.ptk_main_runs.specs.Members
 pub use Rattle.ptk_main_runs.specs.Missing
 pub use Rattle.ptk_main_runs.specs.PartStatus

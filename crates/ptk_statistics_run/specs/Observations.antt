@@ -1,5 +1,5 @@
 -- What is seen of a partition's threads at its decisions.
-use Rattle.std.specs.Prelude.{ℕ, ◌+◌, nat_eq, nat_le, ◌==◌, Bool, true, false, ◌&&◌, not, if◌then◌else◌, Option, Some, None, option_and_then, unwrap_or}
+use Rattle.std.specs.Prelude.{ℕ, ◌+◌, ◌-◌, nat_eq, nat_le, ◌==◌, Bool, true, false, ◌&&◌, not, if◌then◌else◌, Option, Some, None, option_and_then, unwrap_or}
 use Rattle.std.specs.Option.{option_eq}
 use Rattle.ptk_words.specs.Calls.{call_of, cost_of, number_of}
 use Rattle.ptk_words.specs.Words.{word_of}
@@ -58,6 +58,11 @@ has_halted other = false
 -- the partition's last step, if it began at the tick (own)
 abbrev pub step_at : ℕ → Part → Option Entry
 step_at tick s = option_and_then (λ entry. if entry.tick == tick then Some entry else None) s.last
+
+-- the place among the threads of the one that made the last step, the first before any step (own)
+abbrev pub place_of_last : Option Entry → ℕ
+place_of_last None = 0
+place_of_last (Some entry) = entry.thread - 1
 
 -- the number of the call that a step is: what is in a7, and that of pthread_exit where its thread ended with it; none where it is no call (own)
 abbrev pub number_in : Entry → Part → Option ℕ

@@ -3,7 +3,7 @@ use Rattle.std.specs.Prelude.{◌≡◌, ℕ, ◌+◌, ◌<◌, ◌≤◌, nat_l
 use Rattle.ptk_words.specs.Names.{Tick}
 use Rattle.ptk_words.specs.declared.TheConstants.{ECALL}
 use Rattle.ptk_words.specs.declared.sections.Entry.{Entry}
-use Rattle.ptk_main_runs.specs.Going.{GoesOnAsIs}
+use Rattle.ptk_main_runs.specs.Going.{GoesOnAsIs, StaysBehindCall}
 use Rattle.ptk_main_runs.specs.World.{World, at_tick, but_next, section_at, state_of}
 use Rattle.ptk_statistics_figures.specs.Counts.{reached}
 use Rattle.ptk_statistics_figures.specs.Times.{capped_sum}
@@ -46,26 +46,29 @@ are_due_behind from to world = (world.tick == from) || ends_behind_plain_step to
 
 -- ---- a stretch
 
--- up to this tick nothing changes of any partition but the tick of its next decision, and in a run up to a tick it is the last such one (own)
+-- from the system's tick on and up to this one nothing changes of any partition but the tick of its next decision, and in a run up to a tick it is the last such one (own)
 pub record IsStillTo (world : World) (to next : Tick) : Type 0 where
+  pub from : world.tick ≤ next
   pub within : next ≤ to
   pub stay : (p : ℕ) → p < length world.config.sections → (k : ℕ) → world.tick ≤ k → k ≤ next → but_next (state_of (at_tick k world) p) ≡ but_next (state_of world p)
   pub latest : (k : ℕ) → k ≤ to
       → ((p : ℕ) → p < length world.config.sections → (j : ℕ) → world.tick ≤ j → j ≤ k → but_next (state_of (at_tick j world) p) ≡ but_next (state_of world p)) → k ≤ next
 
--- the decisions at the system's tick, in a run up to a tick: each partition's is looked at ahead of it and behind it, and then nothing changes up to this tick (own)
+-- the decisions at the system's tick, in a run up to a later tick: each partition's is looked at ahead of it and behind it, and then nothing changes up to this tick (own)
 pub record AreDecided (is_same : Doing → Doing → Bool) (world : World) (to next : Tick) (before after : List PartStatistics) : Type 0 where
+  pub early : world.tick < to
   pub ahead : List PartStatistics
   pub coming : AreSeenBy is_same world Coming to before ahead
   pub decided : AreSeenBy is_same (at_tick (world.tick + 1) world) (Decided world.tick) to ahead after
   pub still : IsStillTo (at_tick (world.tick + 1) world) to next
 
--- a row of steps, up to this tick, in a run up to a tick: it begins where a thread runs of the first partition that decides, on the way each partition goes on as is, and it is looked at behind it (own)
+-- a row of steps, up to this tick, in a run up to a tick: it begins where a thread runs of the first partition that decides, on the way each partition goes on as is, and nothing happens to it behind a call it makes; it is looked at behind the row (own)
 pub record IsRow (world : World) (to next : Tick) (before after : List PartStatistics) : Type 0 where
   pub running : is_running_at world ≡ true
   pub from : world.tick ≤ next
   pub within : next ≤ to
   pub steady : (p : ℕ) → p < length world.config.sections → GoesOnAsIs world p next
+  pub last : (p : ℕ) → p < length world.config.sections → StaysBehindCall world p next
   pub behind : AreBehindRows (at_tick next world) before after
 
 -- a stretch, from the system's tick up to this one, in a run up to a tick: the decisions at its first tick, or a row (own)

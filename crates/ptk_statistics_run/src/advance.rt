@@ -4,6 +4,7 @@ ghost use Rattle.std.specs.Prelude.{◌≡◌, ◌<◌, ◌≤◌, length};
 ghost use Rattle.ptk_words.specs.declared.TheConstants.{LAST_TICK, THREAD_LIMIT};
 ghost use Rattle.ptk_main_runs.specs.World.{state_of};
 ghost use Rattle.ptk_statistics_figures.specs.Counts.{reached, steps_in};
+ghost use Rattle.ptk_statistics_run.specs.Observations.{place_of_last};
 ghost use Rattle.ptk_statistics_run.specs.Sums.{AddsUp};
 
 use ptk_main_runs::System;
@@ -46,7 +47,8 @@ pub(crate) fn advance(counted: &mut Counted, system: &System<'_>, p: PartId)
 /// The place among the threads of the one that made the partition's last step, the first before any step.
 fn last_place(system: &System<'_>, p: PartId) -> usize
     requires { p < length system.now.config.sections }
-    ensures { result < THREAD_LIMIT }
+    ensures within { result < THREAD_LIMIT }
+    ensures place { result ≡ place_of_last (state_of system.now p).part.last }
 {
     match system.last_step(p) {
         Some(entry) => entry.thread.place(),

@@ -8,7 +8,10 @@
 //!   then finished (`figures`: `AreFiguresOf`, `AreGathered`). A stretch is the decisions at a tick, each partition's
 //!   looked at ahead of it and behind it, and the ticks behind them over which nothing changes (`AreDecided`), or a row
 //!   of steps that begins where a thread runs of the first partition that decides, and over which each partition goes
-//!   on as is, with a look at each behind it (`IsRow`).
+//!   on as is, and nothing happens to it behind a call, with a look at each behind it (`IsRow`).
+//! - Behind each stretch every step was looked at (`rows_count_calls`: `seen`). So a row has one call of a partition at
+//!   most, which is its last step there, and counts it (`calls`: `AreCallsCounted`). The calls in the figures of a run
+//!   are those that its threads made, as many of each as there are such steps (`figures_count_calls`: `calls_below`).
 //! - What a thread does, which step a decision began, and which call that step is are the definitions' (`doing_of`,
 //!   `step_at`, `number_in`). So is what a decision leaves of the figures of a thread that makes a step (`stepped`) and
 //!   of one that makes none (`looked_at`), and of those of the mutexes, with the waits that end and the owners that are
@@ -16,19 +19,22 @@
 //!   (`is_disturbed_by`).
 //!
 //! The run goes on by single decisions where a call or a change may come, by rows of plain steps between, and over
-//! ticks at which nothing is due at once. That a row has one call at most, its last step, is tested. Below are the
-//! figures of one partition (`ptk_statistics_figures`) and whole runs (`ptk_main_runs`); above is what the program
-//! answers to `stats` (`ptk_statistics`). No clause is costly to prove.
+//! ticks at which nothing is due at once. Which own tick was used, idle or after the halt, how many lost ticks lie ahead
+//! and whose the steps are is tested. Below are the figures of one partition (`ptk_statistics_figures`) and whole runs
+//! (`ptk_main_runs`); above is what the program answers to `stats` (`ptk_statistics`). No clause is costly to prove.
 
 mod advance;
 mod doing;
 mod due;
+mod laws;
 mod observed;
 mod part;
 mod reading;
 mod statistics;
+mod thread;
 mod waits;
 
+pub use laws::{figures_count_calls, rows_count_calls};
 pub use part::PartStatistics;
 pub use ptk_main_runs::{
     BootFault, Files, PartStatus, PutFault, RunFault, System, Value, part_named, put_members,

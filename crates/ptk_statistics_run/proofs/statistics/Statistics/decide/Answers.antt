@@ -31,8 +31,9 @@ returns-clause-seen c =
     let next : c.run_to-2.new.self.tick ≡ max c.run_to.new.self.tick c.all_stay_until.result = ap (λ (w : World). w.tick) c.run_to-2.ensures in
     let still : IsStillTo c.run_to.new.self c.args.to c.run_to-2.new.self.tick =
     still_to c.run_to.new.self c.args.to c.all_stay_until.result c.run_to-2.new.self.tick (alone_again first c.run_to.new.self (first.tick + 1) there) (omega (arith, reached, c.requires.due)) next
-    (record { within = c.all_stay_until.ensures.within; stay = c.all_stay_until.ensures.stay; latest = c.all_stay_until.ensures.latest c.requires.early }) in
+    c.all_stay_until.ensures.within c.all_stay_until.ensures.stay (c.all_stay_until.ensures.latest c.requires.early) in
     record {
+      early = c.requires.due;
       ahead = c.look.new.self.parts.items;
       coming = c.look.ensures.seen;
       decided = subst (λ (world : World). AreSeenBy (doing_eq.ghosts).eq world (Decided first.tick) c.args.to c.look.new.self.parts.items c.look-2.new.self.parts.items) there

@@ -30,14 +30,14 @@ returns-then-not-is_due-clause-row c = λ is.
     c.args.self.now.parts.items c.look_at_rows.new.self.parts.items c.look_at_rows.new.self.parts.items
     c.tick-from.ensures c.call_to.ensures.run (sym c.if-not-is_due.true ∙ c.are_due_behind-is_due.ensures)
     (row_to c.args.system.now c.call_to.new.self c.args.to c.args.self.now.parts.items c.look_at_rows.new.self.parts.items
-    is c.call_to.ensures.from (omega (arith, c.call_to.ensures.within, c.requires.due)) c.call_to.ensures.run c.call_to.ensures.steady c.look_at_rows.ensures.rows)
+    is c.call_to.ensures.from (omega (arith, c.call_to.ensures.within, c.requires.due)) c.call_to.ensures.run c.call_to.ensures.steady c.call_to.ensures.last c.look_at_rows.ensures.rows)
     (refl, refl)
 
 pub returns-then-not-is_due-clause-gathered : goal.returns-then-not-is_due-clause-gathered
 returns-then-not-is_due-clause-gathered c =
     row_gathered (doing_eq.ghosts).eq c.args.to c.args.system.now c.call_to.new.self c.args.self.now.parts.items c.look_at_rows.new.self.parts.items c.call_to.ensures.run
     (row_to c.args.system.now c.call_to.new.self c.args.to c.args.self.now.parts.items c.look_at_rows.new.self.parts.items (sym c.is_running-runs.ensures ∙ c.if-not-runs.false)
-    c.call_to.ensures.from (omega (arith, c.call_to.ensures.within, c.requires.due)) c.call_to.ensures.run c.call_to.ensures.steady c.look_at_rows.ensures.rows)
+    c.call_to.ensures.from (omega (arith, c.call_to.ensures.within, c.requires.due)) c.call_to.ensures.run c.call_to.ensures.steady c.call_to.ensures.last c.look_at_rows.ensures.rows)
 
 pub returns-clause-run : goal.returns-clause-run
 returns-clause-run c = at_again c.args.system.now c.call_to.new.self c.decide-2.new.system _ c.call_to.ensures.run c.decide-2.ensures.run
@@ -48,7 +48,7 @@ returns-clause-row c = λ is.
     c.args.self.now.parts.items c.look_at_rows.new.self.parts.items c.decide-2.new.self.parts.items
     c.tick-from.ensures c.call_to.ensures.run (sym c.if-not-is_due.false ∙ c.are_due_behind-is_due.ensures)
     (row_to c.args.system.now c.call_to.new.self c.args.to c.args.self.now.parts.items c.look_at_rows.new.self.parts.items
-    is c.call_to.ensures.from (omega (arith, c.call_to.ensures.within, c.requires.due)) c.call_to.ensures.run c.call_to.ensures.steady c.look_at_rows.ensures.rows)
+    is c.call_to.ensures.from (omega (arith, c.call_to.ensures.within, c.requires.due)) c.call_to.ensures.run c.call_to.ensures.steady c.call_to.ensures.last c.look_at_rows.ensures.rows)
     c.decide-2.ensures.seen
 
 pub returns-clause-gathered : goal.returns-clause-gathered
@@ -56,5 +56,5 @@ returns-clause-gathered c =
     one_more (doing_eq.ghosts).eq c.args.to c.args.system.now c.call_to.new.self c.decide-2.new.system c.args.self.now.parts.items c.look_at_rows.new.self.parts.items c.decide-2.new.self.parts.items
     (row_gathered (doing_eq.ghosts).eq c.args.to c.args.system.now c.call_to.new.self c.args.self.now.parts.items c.look_at_rows.new.self.parts.items c.call_to.ensures.run
     (row_to c.args.system.now c.call_to.new.self c.args.to c.args.self.now.parts.items c.look_at_rows.new.self.parts.items (sym c.is_running-runs.ensures ∙ c.if-not-runs.false)
-    c.call_to.ensures.from (omega (arith, c.call_to.ensures.within, c.requires.due)) c.call_to.ensures.run c.call_to.ensures.steady c.look_at_rows.ensures.rows))
+    c.call_to.ensures.from (omega (arith, c.call_to.ensures.within, c.requires.due)) c.call_to.ensures.run c.call_to.ensures.steady c.call_to.ensures.last c.look_at_rows.ensures.rows))
     c.decide-2.ensures.run (inl c.decide-2.ensures.seen)

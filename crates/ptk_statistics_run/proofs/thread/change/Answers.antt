@@ -5,7 +5,7 @@ use Rattle.ptk_statistics_figures.specs.declared.doing.Doing.{Doing}
 use Rattle.ptk_statistics_figures.specs.declared.thread.ThreadStatistics.{ThreadStatistics}
 use Rattle.ptk_statistics_run.specs.Observations.{doing_of}
 use Rattle.ptk_statistics_run.specs.Gathering.{changed, is_preemption, waiting_for, with_preemption, with_reply_at_wake}
-use Rattle.ptk_statistics_run.proofs.observed.change.Goals as goal
+use Rattle.ptk_statistics_run.proofs.thread.change.Goals as goal
 
 pub returns-clause-thread : goal.returns-clause-thread
 unfolding changed

@@ -9,7 +9,7 @@ use Rattle.ptk_main_runs.specs.World.{state_of}
 use Rattle.ptk_statistics_figures.specs.declared.doing.Doing.{Doing}
 use Rattle.ptk_statistics_run.specs.Observations.{doing_of, number_in, with_stack}
 use Rattle.ptk_statistics_run.specs.Gathering.{at_step, at_step_end, step_over, stepped, with_call_made}
-use Rattle.ptk_statistics_run.proofs.observed.make_step.Goals as goal
+use Rattle.ptk_statistics_run.proofs.thread.make_step.Goals as goal
 
 pub returns-clause-thread : goal.returns-clause-thread
 unfolding stepped

@@ -1,0 +1,18 @@
+//! What holds of the figures of every run.
+
+ghost use Rattle.std.specs.Prelude.{Bool};
+ghost use Rattle.ptk_statistics_figures.specs.declared.doing.Doing.{Doing};
+ghost use Rattle.ptk_statistics_run.specs.Calls.{FiguresCountCalls, RowsCountCalls, StretchesSeeSteps};
+
+/// Behind each stretch of a run every step was looked at. So a row counts each call that is made in it, once: the call
+/// is the last step of its partition there.
+pub fn rows_count_calls()
+    ensures seen { (is_same : Doing → Doing → Bool) → StretchesSeeSteps is_same }
+    ensures calls { (is_same : Doing → Doing → Bool) → RowsCountCalls is_same }
+{}
+
+/// The calls in the figures of a run are those that its threads made: for each number of a thread, and each call, as
+/// many as there are steps of the run up to its last tick that are that call.
+pub fn figures_count_calls()
+    ensures { (is_same : Doing → Doing → Bool) → FiguresCountCalls is_same }
+{}
