@@ -3,18 +3,18 @@ use Rattle.std.proofs.Common.{◌≡◌, ◌∙◌, ℕ, ◌+◌, ◌<◌, ◌&&
 use Rattle.std.specs.Prelude.{◌↔◌, if◌then◌else◌, is_none}
 use Rattle.std.specs.Borrow.{Bor}
 use Rattle.ptk_words.specs.declared.sections.Limits.{Limits}
-use Rattle.ptk_impact.specs.Deeper.{with_trace_limit}
-use Rattle.ptk_impact.specs.Impact.{IsImpact}
-use Rattle.ptk_impact.specs.Views.{SeenAlike, SeenAlikeButTrace, section_of}
-use Rattle.ptk_impact.specs.World.{section_at}
-use Rattle.ptk_impact.specs.declared.impact.Impact.{Impact}
-use Rattle.ptk_impact.specs.declared.impact.Impact.TheVariants.{Unchanged, UnchangedButForTrace, Changed}
-use Rattle.ptk_impact.specs.declared.subject.Subject.{Subject}
-use Rattle.ptk_main_runs.specs.Parts.{is_asked}
+use Rattle.ptk_impact_formats.specs.Deeper.{with_trace_limit}
+use Rattle.ptk_impact_formats.specs.Impact.{IsImpact}
+use Rattle.ptk_impact_formats.specs.Views.{SeenAlike, SeenAlikeButTrace, section_of}
+use Rattle.ptk_impact_formats.specs.World.{section_at}
+use Rattle.ptk_impact_formats.below.ptk_impact.specs.declared.impact.Impact.{Impact}
+use Rattle.ptk_impact_formats.below.ptk_impact.specs.declared.impact.Impact.TheVariants.{Unchanged, UnchangedButForTrace, Changed}
+use Rattle.ptk_impact_formats.below.ptk_impact.specs.declared.subject.Subject.{Subject}
+use Rattle.ptk_impact_formats.specs.Parts.{is_asked}
 use Rattle.ptk_impact_answers.specs.declared.release.Release.{Release}
-use Rattle.ptk_impact_answers.specs.declared.tally.Tally.{Tally}
-use Rattle.ptk_impact_answers.specs.Counts.{IsNoChange, with_added, with_removed}
-use Rattle.ptk_impact_answers.specs.Matching.{Renamed, place_after, place_before}
+use Rattle.ptk_impact_formats.specs.declared.tally.Tally.{Tally}
+use Rattle.ptk_impact_formats.specs.Counts.{IsNoChange, with_added, with_removed}
+use Rattle.ptk_impact_answers.specs.Matching.{Renamed, is_new_asked, place_after, place_before}
 use Rattle.ptk_impact_answers.specs.Tallies.{CountsBoth, CountsGone, CountsMatched, CountsNew, InTurn}
 
 -- ---- one behind the other
@@ -64,11 +64,11 @@ alike_counted old new impact clear after is counts =
 -- ---- a new partition, by its name and whether it is asked for
 
 module _ (renames : List Renamed) (asked : Option (Bor (List ℕ))) (old new : Release) (place : ℕ) (name : List ℕ) (answer : Bool) (tally counts : Tally)
-    (named : name ≡ (section_at new.config.now place).name) (told : answer ≡ is_asked asked name) where
+    (named : name ≡ (section_at new.config.now place).name) (told : answer ≡ is_new_asked renames asked name) where
   by_answer : (known : Bool) → answer ≡ known → MatchBool known (CountsMatched (place_before renames old.config.now name) old new place tally counts) (counts ≡ tally)
       → CountsNew renames asked old new place tally counts
   by_answer known is counted =
-      subst (λ (n : List ℕ). MatchBool (is_asked asked n) (CountsMatched (place_before renames old.config.now n) old new place tally counts) (counts ≡ tally)) named
+      subst (λ (n : List ℕ). MatchBool (is_new_asked renames asked n) (CountsMatched (place_before renames old.config.now n) old new place tally counts) (counts ≡ tally)) named
       (subst (λ (b : Bool). MatchBool b (CountsMatched (place_before renames old.config.now name) old new place tally counts) (counts ≡ tally)) (sym is ∙ told) counted)
 
   pub unasked_counted : answer ≡ false → counts ≡ tally → CountsNew renames asked old new place tally counts

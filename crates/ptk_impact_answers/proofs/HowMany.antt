@@ -4,17 +4,17 @@ use Rattle.std.specs.Prelude.{if◌then◌else◌, is_none, unwrap_or}
 use Rattle.std.specs.Borrow.{Bor}
 use Rattle.std.proofs.lemmas.Bool.{both_ways}
 use Rattle.ptk_words.specs.declared.sections.Limits.{Limits}
-use Rattle.ptk_impact.specs.Impact.{IsImpact}
-use Rattle.ptk_impact.specs.Views.{SeenAlike}
-use Rattle.ptk_impact.specs.World.{section_at}
-use Rattle.ptk_impact.specs.declared.impact.Impact.{Impact}
-use Rattle.ptk_impact.specs.declared.impact.Impact.TheVariants.{Unchanged, UnchangedButForTrace, Changed}
-use Rattle.ptk_impact.specs.declared.subject.Subject.{Subject}
-use Rattle.ptk_main_runs.specs.Parts.{is_asked}
+use Rattle.ptk_impact_formats.specs.Impact.{IsImpact}
+use Rattle.ptk_impact_formats.specs.Views.{SeenAlike}
+use Rattle.ptk_impact_formats.specs.World.{section_at}
+use Rattle.ptk_impact_formats.below.ptk_impact.specs.declared.impact.Impact.{Impact}
+use Rattle.ptk_impact_formats.below.ptk_impact.specs.declared.impact.Impact.TheVariants.{Unchanged, UnchangedButForTrace, Changed}
+use Rattle.ptk_impact_formats.below.ptk_impact.specs.declared.subject.Subject.{Subject}
+use Rattle.ptk_impact_formats.specs.Parts.{is_asked}
 use Rattle.ptk_impact_answers.specs.declared.release.Release.{Release}
-use Rattle.ptk_impact_answers.specs.declared.tally.Tally.{Tally}
-use Rattle.ptk_impact_answers.specs.Counts.{counted, no_counts, one_more, with_added, with_removed}
-use Rattle.ptk_impact_answers.specs.Matching.{Renamed, place_after, place_before}
+use Rattle.ptk_impact_formats.specs.declared.tally.Tally.{Tally}
+use Rattle.ptk_impact_formats.specs.Counts.{counted, no_counts, one_more, with_added, with_removed}
+use Rattle.ptk_impact_answers.specs.Matching.{Renamed, is_new_asked, place_after, place_before}
 use Rattle.ptk_impact_answers.specs.SameRuns.{subject_at}
 use Rattle.ptk_impact_answers.specs.Tallies.{AreCounts, CountsGone, CountsMatched, CountsNew, HasOtherTrace, HowMany, InTurn, IsNoneNow, IsSeenOtherwise, WasNone, WasOne}
 use Rattle.ptk_impact_answers.proofs.Counting.{alike_but_trace}
@@ -48,7 +48,7 @@ AreNewCounts renames asked old new place tally =
 
 module _ (renames : List Renamed) (asked : Option (Bor (List ℕ))) (old new : Release) (place : ℕ) (tally : Tally) (few : place < 2 ^ 32)
     (held : AreNewCounts renames asked old new place tally) where
-  unasked_more : is_asked asked (section_at new.config.now place).name ≡ false → AreNewCounts renames asked old new (suc place) tally
+  unasked_more : is_new_asked renames asked (section_at new.config.now place).name ≡ false → AreNewCounts renames asked old new (suc place) tally
   unasked_more refuted = (
     inr (λ was. both_ways _ refuted was.1, held.0),
     inr (λ was. both_ways _ refuted was.1, held.1),
@@ -57,7 +57,7 @@ module _ (renames : List Renamed) (asked : Option (Bor (List ℕ))) (old new : R
     held.4,
   )
 
-  none_more : is_asked asked (section_at new.config.now place).name ≡ true → place_before renames old.config.now (section_at new.config.now place).name ≡ None
+  none_more : is_new_asked renames asked (section_at new.config.now place).name ≡ true → place_before renames old.config.now (section_at new.config.now place).name ≡ None
       → AreNewCounts renames asked old new (suc place) (with_added tally)
   none_more is nowhere = (
     inr (λ was. not_there _ was.0 nowhere was.2, held.0),
@@ -73,7 +73,7 @@ module _ (renames : List Renamed) (asked : Option (Bor (List ℕ))) (old new : R
   same_pair IsSo before there was =
       subst (λ (b : ℕ). IsSo (subject_at old b) (subject_at new place)) (ap (λ (o : Option ℕ). unwrap_or o 0) (sym was.2 ∙ there)) was.3
 
-  both_more : (before : ℕ) → is_asked asked (section_at new.config.now place).name ≡ true
+  both_more : (before : ℕ) → is_new_asked renames asked (section_at new.config.now place).name ≡ true
       → place_before renames old.config.now (section_at new.config.now place).name ≡ Some before → (impact : Impact)
       → IsImpact (subject_at old before) (subject_at new place) impact → AreNewCounts renames asked old new (suc place) (counted impact tally)
   both_more before is there Unchanged alike = (
@@ -100,12 +100,12 @@ module _ (renames : List Renamed) (asked : Option (Bor (List ℕ))) (old new : R
   )
 
   by_place : (counts : Tally) (found : Option ℕ) → place_before renames old.config.now (section_at new.config.now place).name ≡ found
-      → is_asked asked (section_at new.config.now place).name ≡ true → CountsMatched found old new place tally counts → AreNewCounts renames asked old new (suc place) counts
+      → is_new_asked renames asked (section_at new.config.now place).name ≡ true → CountsMatched found old new place tally counts → AreNewCounts renames asked old new (suc place) counts
   by_place counts None nowhere is same = subst (λ (t : Tally). AreNewCounts renames asked old new (suc place) t) (sym same) (none_more is nowhere)
   by_place counts (Some before) there is both =
       subst (λ (t : Tally). AreNewCounts renames asked old new (suc place) t) (sym both.2) (both_more before is there both.0 both.1)
 
-  by_answer : (counts : Tally) (known : Bool) → is_asked asked (section_at new.config.now place).name ≡ known
+  by_answer : (counts : Tally) (known : Bool) → is_new_asked renames asked (section_at new.config.now place).name ≡ known
       → MatchBool known (CountsMatched (place_before renames old.config.now (section_at new.config.now place).name) old new place tally counts) (counts ≡ tally)
       → AreNewCounts renames asked old new (suc place) counts
   by_answer counts false refuted same = subst (λ (t : Tally). AreNewCounts renames asked old new (suc place) t) (sym same) (unasked_more refuted)
@@ -117,7 +117,7 @@ new_counts renames asked old new zero counts few same =
     subst (λ (t : Tally). AreNewCounts renames asked old new zero t) (sym same) (refl, refl, refl, refl, refl)
 new_counts renames asked old new (suc place) counts few steps =
     by_answer renames asked old new place steps.0 (omega arith) (new_counts renames asked old new place steps.0 (omega arith) steps.1) counts
-    (is_asked asked (section_at new.config.now place).name) refl steps.2
+    (is_new_asked renames asked (section_at new.config.now place).name) refl steps.2
 
 -- ---- partitions that are gone
 

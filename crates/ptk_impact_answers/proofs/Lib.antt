@@ -1,7 +1,7 @@
+pub mod Apart
 pub mod Counting
 pub mod HowMany
-pub mod Lined
+pub mod Matched
 pub mod Names
 pub mod Renaming
-pub mod Sent
 pub mod Writing

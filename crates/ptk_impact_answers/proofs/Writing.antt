@@ -2,22 +2,22 @@
 use Rattle.std.proofs.Common.{◌≡◌, ◌∙◌, ℕ, ◌&&◌, Bool, true, false, List, Option, Some, None, MatchBool, codes, sym, subst}
 use Rattle.std.specs.Prelude.{is_none}
 use Rattle.std.specs.Borrow.{Bor}
-use Rattle.ptk_impact.specs.World.{section_at}
-use Rattle.ptk_main_runs.specs.Parts.{is_asked}
+use Rattle.ptk_impact_formats.specs.World.{section_at}
+use Rattle.ptk_impact_formats.specs.Parts.{is_asked}
 use Rattle.ptk_impact_answers.specs.declared.form.Form.{Form}
 use Rattle.ptk_impact_answers.specs.declared.release.Release.{Release}
-use Rattle.ptk_impact_answers.specs.Counts.{with_added, with_removed}
-use Rattle.ptk_impact_answers.specs.Matching.{Renamed, place_after, place_before}
+use Rattle.ptk_impact_formats.specs.Counts.{with_added, with_removed}
+use Rattle.ptk_impact_answers.specs.Matching.{Renamed, is_new_asked, place_after, place_before}
 use Rattle.ptk_impact_answers.specs.Written.{PutsAlone, PutsBoth, PutsGone, PutsMatched, PutsNew, SoFar}
 
 -- ---- a new partition, by its name and whether it is asked for
 
 module _ (form : Form) (renames : List Renamed) (asked : Option (Bor (List ℕ))) (old new : Release) (place : ℕ) (name : List ℕ) (answer : Bool) (start next : SoFar)
-    (named : name ≡ (section_at new.config.now place).name) (told : answer ≡ is_asked asked name) where
+    (named : name ≡ (section_at new.config.now place).name) (told : answer ≡ is_new_asked renames asked name) where
   by_answer : (known : Bool) → answer ≡ known → MatchBool known (PutsMatched form (place_before renames old.config.now name) name old new place start next) (next ≡ start)
       → PutsNew form renames asked old new place start next
   by_answer known is put =
-      subst (λ (n : List ℕ). MatchBool (is_asked asked n) (PutsMatched form (place_before renames old.config.now n) n old new place start next) (next ≡ start)) named
+      subst (λ (n : List ℕ). MatchBool (is_new_asked renames asked n) (PutsMatched form (place_before renames old.config.now n) n old new place start next) (next ≡ start)) named
       (subst (λ (b : Bool). MatchBool b (PutsMatched form (place_before renames old.config.now name) name old new place start next) (next ≡ start)) (sym is ∙ told) put)
 
   pub unasked_put : answer ≡ false → next ≡ start → PutsNew form renames asked old new place start next

@@ -1,8 +1,10 @@
 -- Which partition of the old configuration one of the new configuration was, and the other way round.
-use Rattle.std.specs.Prelude.{ℕ, List, Option, Some, None, if◌then◌else◌, is_some, option_and_then, option_map, position, slice_get}
+use Rattle.std.specs.Prelude.{ℕ, Bool, false, ◌||◌, List, Option, Some, None, if◌then◌else◌, is_some, option_and_then, option_map, position, slice_get}
+use Rattle.std.specs.Borrow.{Bor}
+use Rattle.std.specs.Option.{option_map_or}
 use Rattle.std.specs.Str.{bytes_eq}
 use Rattle.ptk_config.specs.Configuration.{Configuration}
-use Rattle.ptk_main_runs.specs.Parts.{part_named}
+use Rattle.ptk_impact_formats.specs.Parts.{is_asked, part_named}
 
 -- a partition that has another name (own)
 pub record Renamed : Type 0 where
@@ -37,3 +39,7 @@ place_before renames old name = option_and_then (part_named old) (old_name renam
 -- the place of the partition that the old one of this name is now (own)
 abbrev pub place_after : List Renamed → Configuration → List ℕ → Option ℕ
 place_after renames new name = option_and_then (part_named new) (new_name renames name)
+
+-- the new partition of this name is asked for, by its name or by the one that it had (own)
+unfoldable pub is_new_asked : List Renamed → Option (Bor (List ℕ)) → List ℕ → Bool
+is_new_asked renames asked name = is_asked asked name || option_map_or (is_asked asked) (old_name renames name) false

@@ -2,12 +2,12 @@
 use Rattle.std.specs.Prelude.{ℕ, ◌&&◌, List, [], ◌∷◌, Option, Some, None, Result, Ok, Err, if◌then◌else◌, is_none, option_and_then, option_map}
 use Rattle.std.specs.Option.{option_or}
 use Rattle.std.specs.Borrow.{Bor}
-use Rattle.ptk_impact.specs.World.{section_at}
+use Rattle.ptk_impact_formats.specs.World.{section_at}
 use Rattle.ptk_main_faults.specs.declared.fault.Fault.{Fault}
 use Rattle.ptk_main_faults.specs.declared.fault.Fault.TheVariants.{MissingFile}
 use Rattle.ptk_main_faults.specs.Told.{text}
-use Rattle.ptk_main_runs.specs.Missing.{first_missing}
-use Rattle.ptk_main_runs.specs.Parts.{part_named}
+use Rattle.ptk_impact_formats.specs.Missing.{first_missing}
+use Rattle.ptk_impact_formats.specs.Parts.{part_named}
 use Rattle.ptk_impact_answers.specs.declared.answer.Question.{Question}
 use Rattle.ptk_impact_answers.specs.declared.release.Release.{Release}
 use Rattle.ptk_impact_answers.specs.Matching.{Renamed}
@@ -44,7 +44,7 @@ unknown_name old new renames asked = option_or (unknown_renamed old new renames)
 
 -- ---- the refusal
 
--- the first name that is no partition's: a text that is no rename, else of the renames or the asked one (own)
+-- the first name that is no partition's: a text that is refused as a rename, else of the renames or the asked one (own)
 abbrev pub refused_name : Release → Release → Option (Bor (List ℕ)) → Result (List Renamed) (List ℕ) → Option (List ℕ)
 refused_name old new asked (Err name) = Some name
 refused_name old new asked (Ok renames) = unknown_name old new renames asked

@@ -1,16 +1,16 @@
 -- What the counts of a whole answer are.
 use Rattle.std.specs.Prelude.{◌≡◌, ◌⊎◌, ℕ, zero, suc, ◌+◌, ◌&&◌, true, List, length, Option, Some, None, MatchBool, if◌then◌else◌, is_none}
 use Rattle.std.specs.Borrow.{Bor}
-use Rattle.ptk_impact.specs.Impact.{IsImpact}
-use Rattle.ptk_impact.specs.Views.{SeenAlike, SeenAlikeButTrace}
-use Rattle.ptk_impact.specs.World.{section_at}
-use Rattle.ptk_impact.specs.declared.impact.Impact.{Impact}
-use Rattle.ptk_impact.specs.declared.subject.Subject.{Subject}
-use Rattle.ptk_main_runs.specs.Parts.{is_asked}
+use Rattle.ptk_impact_formats.specs.Impact.{IsImpact}
+use Rattle.ptk_impact_formats.specs.Views.{SeenAlike, SeenAlikeButTrace}
+use Rattle.ptk_impact_formats.specs.World.{section_at}
+use Rattle.ptk_impact_formats.below.ptk_impact.specs.declared.impact.Impact.{Impact}
+use Rattle.ptk_impact_formats.below.ptk_impact.specs.declared.subject.Subject.{Subject}
+use Rattle.ptk_impact_formats.specs.Parts.{is_asked}
 use Rattle.ptk_impact_answers.specs.declared.release.Release.{Release}
-use Rattle.ptk_impact_answers.specs.declared.tally.Tally.{Tally}
-use Rattle.ptk_impact_answers.specs.Counts.{counted, with_added, with_removed}
-use Rattle.ptk_impact_answers.specs.Matching.{Renamed, place_after, place_before}
+use Rattle.ptk_impact_formats.specs.declared.tally.Tally.{Tally}
+use Rattle.ptk_impact_formats.specs.Counts.{counted, with_added, with_removed}
+use Rattle.ptk_impact_answers.specs.Matching.{Renamed, is_new_asked, place_after, place_before}
 use Rattle.ptk_impact_answers.specs.SameRuns.{subject_at}
 
 -- ---- one partition
@@ -29,7 +29,7 @@ CountsMatched (Some before) old new place tally counts = CountsBoth old before n
 abbrev pub CountsNew : List Renamed → Option (Bor (List ℕ)) → Release → Release → ℕ → Tally → Tally → Type 0
 CountsNew renames asked old new place tally counts =
     let name = (section_at new.config.now place).name in
-    MatchBool (is_asked asked name) (CountsMatched (place_before renames old.config.now name) old new place tally counts) (counts ≡ tally)
+    MatchBool (is_new_asked renames asked name) (CountsMatched (place_before renames old.config.now name) old new place tally counts) (counts ≡ tally)
 
 -- the old partition at a place is counted, if it is asked for and is gone (own)
 abbrev pub CountsGone : List Renamed → Option (Bor (List ℕ)) → Release → Release → ℕ → Tally → Tally → Type 0
@@ -63,7 +63,7 @@ HowMany P (suc place) count = ((others : ℕ) × P place × HowMany P place othe
 abbrev pub WasOne : (Subject → Subject → Type 0) → List Renamed → Option (Bor (List ℕ)) → Release → Release → ℕ → Type 0
 WasOne IsSo renames asked old new place =
     let name = (section_at new.config.now place).name in
-    (before : ℕ) × (is_asked asked name ≡ true) × (place_before renames old.config.now name ≡ Some before) × IsSo (subject_at old before) (subject_at new place)
+    (before : ℕ) × (is_new_asked renames asked name ≡ true) × (place_before renames old.config.now name ≡ Some before) × IsSo (subject_at old before) (subject_at new place)
 
 -- boot sees the same of both but for the trace's length, which differs (own)
 abbrev pub HasOtherTrace : Subject → Subject → Type 0
@@ -77,7 +77,7 @@ IsSeenOtherwise old new = ¬ SeenAlikeButTrace old new
 abbrev pub WasNone : List Renamed → Option (Bor (List ℕ)) → Release → Release → ℕ → Type 0
 WasNone renames asked old new place =
     let name = (section_at new.config.now place).name in
-    (is_asked asked name ≡ true) × (place_before renames old.config.now name ≡ None)
+    (is_new_asked renames asked name ≡ true) × (place_before renames old.config.now name ≡ None)
 
 -- the old partition at a place is asked for and is none of the new configuration (own)
 abbrev pub IsNoneNow : List Renamed → Option (Bor (List ℕ)) → Release → Release → ℕ → Type 0

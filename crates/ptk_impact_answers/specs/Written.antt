@@ -4,19 +4,19 @@ use Rattle.std.specs.Borrow.{Bor}
 use Rattle.std.specs.Option.{option_copied}
 use Rattle.std.specs.Io.KnownBytes.{Appends}
 use Rattle.ptk_words.specs.Names.{newline}
-use Rattle.ptk_impact.specs.Impact.{IsImpact}
-use Rattle.ptk_impact.specs.World.{section_at}
-use Rattle.ptk_main_runs.specs.Parts.{is_asked}
-use Rattle.ptk_impact_answers.specs.declared.comparison.Comparison.{Comparison}
+use Rattle.ptk_impact_formats.specs.Impact.{IsImpact}
+use Rattle.ptk_impact_formats.specs.World.{section_at}
+use Rattle.ptk_impact_formats.specs.Parts.{is_asked}
+use Rattle.ptk_impact_formats.specs.declared.comparison.Comparison.{Comparison}
 use Rattle.ptk_impact_answers.specs.declared.form.Form.{Form}
 use Rattle.ptk_impact_answers.specs.declared.form.Form.TheVariants.{Lines, Json}
 use Rattle.ptk_impact_answers.specs.declared.release.Release.{Release}
-use Rattle.ptk_impact_answers.specs.declared.tally.Tally.{Tally}
-use Rattle.ptk_impact_answers.specs.Comparisons.{refusal_if_changed}
-use Rattle.ptk_impact_answers.specs.Counts.{counted, no_counts, with_added, with_removed}
-use Rattle.ptk_impact_answers.specs.Documents.{IsAlone, IsCompared, PutsObject, beginning_text, counts_text}
-use Rattle.ptk_impact_answers.specs.Lines.{answer_line, comparison_lines, counts_words}
-use Rattle.ptk_impact_answers.specs.Matching.{Renamed, place_after, place_before}
+use Rattle.ptk_impact_formats.specs.declared.tally.Tally.{Tally}
+use Rattle.ptk_impact_formats.specs.Comparisons.{refusal_if_changed}
+use Rattle.ptk_impact_formats.specs.Counts.{counted, no_counts, with_added, with_removed}
+use Rattle.ptk_impact_formats.specs.Documents.{IsAlone, IsCompared, PutsObject, beginning_text, counts_text}
+use Rattle.ptk_impact_formats.specs.Lines.{answer_line, comparison_lines, counts_words}
+use Rattle.ptk_impact_answers.specs.Matching.{Renamed, is_new_asked, place_after, place_before}
 use Rattle.ptk_impact_answers.specs.SameRuns.{subject_at}
 use Rattle.ptk_impact_answers.specs.Tallies.{InTurn}
 
@@ -77,7 +77,7 @@ PutsMatched form (Some before) name old new place start next = PutsBoth form old
 abbrev pub PutsNew : Form → List Renamed → Option (Bor (List ℕ)) → Release → Release → ℕ → SoFar → SoFar → Type 0
 PutsNew form renames asked old new place start next =
     let name = (section_at new.config.now place).name in
-    MatchBool (is_asked asked name) (PutsMatched form (place_before renames old.config.now name) name old new place start next) (next ≡ start)
+    MatchBool (is_new_asked renames asked name) (PutsMatched form (place_before renames old.config.now name) name old new place start next) (next ≡ start)
 
 -- the old partition at a place is written, if it is asked for and is gone (own)
 abbrev pub PutsGone : Form → List Renamed → Option (Bor (List ℕ)) → Release → Release → ℕ → SoFar → SoFar → Type 0

@@ -1,29 +1,27 @@
 //! The answer to the question for an impact.
 
-ghost use Rattle.std.specs.Prelude.{◌≡◌, ◌≢◌, ◌<◌, ◌↔◌, ◌&&◌, Ok, None, Some, IfErr, IfOk, IfSome, IsOkAnd, MatchResult, OnOk, is_none, length, option_map};
-ghost use Rattle.std.specs.Option.{option_copied};
-ghost use Rattle.ptk_impact.specs.Impact.{IsImpact};
-ghost use Rattle.ptk_impact.specs.World.{section_at};
+ghost use Rattle.std.specs.Prelude.{◌≡◌, ◌≢◌, ◌<◌, ◌↔◌, ◌&&◌, false, Ok, None, Some, IfErr, IfOk, IfSome, IsOkAnd, MatchResult, OnOk, is_none, length, option_map};
+ghost use Rattle.std.specs.Option.{option_copied, option_map_or};
+ghost use Rattle.ptk_config.specs.Configuration.{IsConfiguration};
+ghost use Rattle.ptk_impact_formats.specs.Impact.{IsImpact};
+ghost use Rattle.ptk_impact_formats.specs.World.{section_at};
 ghost use Rattle.ptk_main_faults.specs.Told.{told};
-ghost use Rattle.ptk_main_runs.specs.Parts.{is_asked};
-ghost use Rattle.ptk_impact_answers.specs.Comparisons.{refusal_if_changed};
-ghost use Rattle.ptk_impact_answers.specs.Counts.{IsClear};
-ghost use Rattle.ptk_impact_answers.specs.Matching.{place_after, place_before};
+ghost use Rattle.ptk_impact_formats.specs.Parts.{is_asked};
+ghost use Rattle.ptk_impact_formats.specs.Comparisons.{refusal_if_changed};
+ghost use Rattle.ptk_impact_formats.specs.Counts.{IsClear};
+ghost use Rattle.ptk_impact_answers.specs.Matching.{is_new_asked, old_name, place_after, place_before};
 ghost use Rattle.ptk_impact_answers.specs.Refusals.{refusal, unknown_asked, unknown_in, unknown_name, unknown_renamed};
 ghost use Rattle.ptk_impact_answers.specs.Renaming.{renames_of};
-ghost use Rattle.ptk_impact_answers.specs.SameRuns.{AreSameRuns, AreSeenAlike, AreStillThere, IsStillThereIfAsked, WasSeenAlikeIfAsked, WereSeenAlike, subject_at};
+ghost use Rattle.ptk_impact_answers.specs.SameRuns.{AreAlikeAndThere, AreSameRuns, AreSeenAlike, AreStillThere, IsStillThereIfAsked, WasSeenAlikeIfAsked, WereSeenAlike, subject_at};
 ghost use Rattle.ptk_impact_answers.specs.Tallies.{AreCounts, CountsAllGone, CountsAllNew, CountsBoth, CountsGone, CountsNew};
 ghost use Rattle.ptk_impact_answers.specs.Written.{PutsAllGone, PutsAllNew, PutsAnswer, PutsBoth, PutsGone, PutsInForm, PutsLines, PutsNew};
 
-use crate::comparison::{Comparison, Pair};
 use crate::form::{Form, put_alone, put_beginning, put_comparison, put_counts};
 use crate::refusal::refusal_if_changed;
 use crate::release::Release;
 use crate::renames::{Rename, Renames};
-use crate::tally::Tally;
-use ptk_impact::Impact;
+use ptk_impact_formats::{Comparison, Impact, Pair, PutFault, Tally};
 use ptk_main_faults::Fault;
-use ptk_main_runs::PutFault;
 use std::alloc::{AllocError, Global};
 use std::io::Write;
 
@@ -48,15 +46,17 @@ impl<'a> Question<'a> {
     }
 }
 
-/// Writes what stands between two configurations: a line for each partition of the new one that is asked for, by name,
-/// with what differs beneath, then a line for each that is gone, and a last line that counts. Gives the counts: how many
-/// of these partitions are unchanged, unchanged but for the trace kept, changed, new and gone. They have no changed, new
-/// or gone partition if and only if each that is asked for was and is there, and boot sees the same of both but for the
-/// trace's length: it is the same run.
+/// Writes what stands between two configurations: a line for each partition of the new one that is asked for, by its
+/// name or by the one that it had, with what differs beneath, then a line for each that is gone, and a last line that
+/// counts. Gives the counts: how many of these partitions are unchanged, unchanged but for the trace kept, changed, new
+/// and gone. They have no changed, new or gone partition if and only if some partition is asked for and each that is, of
+/// either configuration, is one of the other, one to one by the names and the renames, and boot sees the same of both
+/// but for the trace's length: it is the same run. At least one is then compared.
 ///
 /// `Fault::MissingFile` names the first image that is not there, those of the old configuration first; else
-/// `Fault::NoPartition` what is no rename, a renamed one that one of them has not, or an asked name that neither
-/// configuration has. Nothing is written before either. Any other fault is one of the host.
+/// `Fault::NoPartition` what is no rename or has the old or the new name of an earlier one, a renamed one that one of
+/// them has not, or an asked name that neither configuration has. Nothing is written before either. Any other fault is
+/// one of the host.
 pub fn impact_with<'a, 'f, W: Write>(
     alloc: Global,
     old: Release<'a, 'f>,
@@ -66,6 +66,7 @@ pub fn impact_with<'a, 'f, W: Write>(
 ) -> Result<Tally, Fault<'a>>
     ensures same { IfOk result (λ tally. IsOkAnd (renames_of question.entry.rename) (λ renames.
         IsClear tally ↔ AreSameRuns renames question.entry.partition old.entry new.entry)) }
+    ensures compared { IfOk result (λ tally. IsClear tally → ¬ ((tally.unchanged ≡ 0) × (tally.but_for_trace ≡ 0))) }
     ensures counted { IfOk result (λ tally. IsOkAnd (renames_of question.entry.rename) (λ renames.
         AreCounts renames question.entry.partition old.entry new.entry tally)) }
     ensures lines { IfOk result (λ tally. IsOkAnd (renames_of question.entry.rename) (λ renames.
@@ -90,6 +91,7 @@ pub fn impact_json_with<'a, 'f, W: Write>(
 ) -> Result<Tally, Fault<'a>>
     ensures same { IfOk result (λ tally. IsOkAnd (renames_of question.entry.rename) (λ renames.
         IsClear tally ↔ AreSameRuns renames question.entry.partition old.entry new.entry)) }
+    ensures compared { IfOk result (λ tally. IsClear tally → ¬ ((tally.unchanged ≡ 0) × (tally.but_for_trace ≡ 0))) }
     ensures counted { IfOk result (λ tally. IsOkAnd (renames_of question.entry.rename) (λ renames.
         AreCounts renames question.entry.partition old.entry new.entry tally)) }
     ensures json { IfOk result (λ tally. IsOkAnd (renames_of question.entry.rename) (λ renames.
@@ -114,6 +116,7 @@ fn impact_in<'a, 'f, W: Write>(
 ) -> Result<Tally, Fault<'a>>
     ensures same { IfOk result (λ tally. IsOkAnd (renames_of question.entry.rename) (λ renames.
         IsClear tally ↔ AreSameRuns renames question.entry.partition old.entry new.entry)) }
+    ensures compared { IfOk result (λ tally. IsClear tally → ¬ ((tally.unchanged ≡ 0) × (tally.but_for_trace ≡ 0))) }
     ensures counted { IfOk result (λ tally. IsOkAnd (renames_of question.entry.rename) (λ renames.
         AreCounts renames question.entry.partition old.entry new.entry tally)) }
     ensures written { IfOk result (λ tally. IsOkAnd (renames_of question.entry.rename) (λ renames.
@@ -226,7 +229,8 @@ impl<'a, 'f> Releases<'a, 'f> {
         question: &Question<'_>,
         out: &mut W,
     ) -> Result<Tally, PutFault>
-        ensures same { IfOk result (λ tally. IsClear tally ↔ AreSameRuns self.now.renames question.now.partition self.now.old self.now.new) }
+        ensures same { IfOk result (λ tally. IsClear tally ↔ AreAlikeAndThere self.now.renames question.now.partition self.now.old self.now.new) }
+        ensures whole { OnOk result (IsConfiguration self.now.old.config.now × IsConfiguration self.now.new.config.now) }
         ensures counted { IfOk result (AreCounts self.now.renames question.now.partition self.now.old self.now.new) }
         ensures written { IfOk result (λ tally. PutsInForm form self.now.renames question.now.partition self.now.old self.now.new tally
             (W.contents out.old) (W.contents out.new)) }
@@ -301,7 +305,7 @@ impl<'a, 'f> Releases<'a, 'f> {
             (tally.old, W.contents out.old) (tally.new, W.contents out.new)) }
     {
         let name = self.new.name_at(place);
-        if !question.is_for(name) {
+        if !self.is_new_asked(name, question) {
             return Ok(());
         }
         match self.before(name) {
@@ -317,6 +321,24 @@ impl<'a, 'f> Releases<'a, 'f> {
                 tally.count_added();
                 Ok(())
             }
+        }
+    }
+
+    /// Whether the new partition of this name is asked for, by its name or by the one that it had.
+    #[tactic(auto, unfolding(crate::specs::Matching::is_new_asked))]
+    fn is_new_asked(&self, name: &str, question: &Question<'_>) -> bool
+        ensures { result ≡ is_new_asked self.now.renames question.now.partition name.now }
+    {
+        question.is_for(name) || self.is_old_name_asked(name, question)
+    }
+
+    /// Whether the name that the new partition of this name had is asked for.
+    fn is_old_name_asked(&self, name: &str, question: &Question<'_>) -> bool
+        ensures { result ≡ option_map_or (is_asked question.now.partition) (old_name self.now.renames name.now) false }
+    {
+        match self.renames.old_name(name) {
+            Some(old) => question.is_for(old),
+            None => false,
         }
     }
 

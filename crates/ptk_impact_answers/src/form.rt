@@ -2,14 +2,12 @@
 
 ghost use Rattle.std.specs.Prelude.{◌≡◌, ◌++◌, OnOk, string_bytes};
 ghost use Rattle.std.specs.Io.KnownBytes.{Appends};
-ghost use Rattle.ptk_impact_answers.specs.Documents.{IsAlone, IsCompared, PutsObject, comma_behind, counts_text};
+ghost use Rattle.ptk_impact_formats.specs.Documents.{IsAlone, IsCompared, PutsObject, comma_behind, counts_text};
 ghost use Rattle.ptk_impact_answers.specs.Written.{PutsAlone, PutsCompared, beginning_of, counts_of};
 
-use crate::comparison::Comparison;
-use crate::document::{json_of, json_of_alone};
-use crate::lines::{put_answer, put_lines};
-use crate::tally::Tally;
-use ptk_main_runs::PutFault;
+use ptk_impact_formats::{
+    Comparison, PutFault, Tally, json_of, json_of_alone, put_answer, put_lines,
+};
 use std::alloc::Global;
 use std::io;
 use std::io::Write;

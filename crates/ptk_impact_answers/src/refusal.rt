@@ -2,12 +2,12 @@
 
 ghost use Rattle.std.specs.Prelude.{◌≡◌, IfOk, option_map};
 ghost use Rattle.ptk_words_model.specs.Run.{fits};
-ghost use Rattle.ptk_impact.specs.Views.{IsPartition};
-ghost use Rattle.ptk_main_runs.specs.Refused.{refusal_of};
-ghost use Rattle.ptk_impact_answers.specs.Comparisons.{refusal_if_changed};
+ghost use Rattle.ptk_impact_formats.specs.Views.{IsPartition};
+ghost use Rattle.ptk_impact_formats.specs.Refused.{refusal_of};
+ghost use Rattle.ptk_impact_formats.specs.Comparisons.{refusal_if_changed};
 
 use ptk_image::{Image, read_image};
-use ptk_impact::{Impact, Subject};
+use ptk_impact_formats::{Impact, Subject};
 use ptk_words::{ImageFault, Limits};
 use std::alloc::{AllocError, Global};
 

@@ -1,16 +1,16 @@
 //! A configuration with its files.
 
 ghost use Rattle.std.specs.Prelude.{◌≡◌, ◌<◌, ◌≤◌, None, IfSome, length, option_map};
-ghost use Rattle.ptk_impact.specs.World.{section_at};
-ghost use Rattle.ptk_main_runs.specs.Missing.{first_missing, is_missing};
-ghost use Rattle.ptk_main_runs.specs.Parts.{part_named};
+ghost use Rattle.ptk_config.specs.Configuration.{IsConfiguration};
+ghost use Rattle.ptk_impact_formats.specs.World.{section_at};
+ghost use Rattle.ptk_impact_formats.specs.Missing.{first_missing, is_missing};
+ghost use Rattle.ptk_impact_formats.specs.Parts.{part_named};
 ghost use Rattle.ptk_impact_answers.specs.Refusals.{missing_image};
 ghost use Rattle.ptk_impact_answers.specs.SameRuns.{subject_at};
 
 use ptk_config::{Config, Section};
 use ptk_image::Files;
-use ptk_impact::Subject;
-use ptk_main_runs::part_named;
+use ptk_impact_formats::{Subject, part_named};
 use ptk_words::PartId;
 
 /// A configuration, and the files that have its images.
@@ -23,10 +23,11 @@ pub struct Release<'a, 'f> {
 }
 
 impl<'a, 'f> Release<'a, 'f> {
-    /// Its sections, in their order, 8 at most.
+    /// Its sections, in their order, 8 at most, of distinct names.
     pub(crate) fn sections(&self) -> &'a [Section]
         ensures value { result.now ≡ self.now.config.now.sections }
         ensures few { length result.now ≤ 8 }
+        ensures whole { IsConfiguration self.now.config.now }
     {
         let config = self.config;
         config.sections()

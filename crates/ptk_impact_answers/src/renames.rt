@@ -4,7 +4,7 @@ ghost use Rattle.std.specs.Prelude.{◌≡◌, ◌≢◌, ◌<◌, ℕ, Ok, Err,
 ghost use Rattle.std.specs.Str.{bytes_eq};
 ghost use Rattle.ptk_main_faults.specs.Told.{told};
 ghost use Rattle.ptk_impact_answers.specs.Matching.{new_name, old_name, place_from, place_to};
-ghost use Rattle.ptk_impact_answers.specs.Renaming.{cut, no_partition, rename_of, renames_of};
+ghost use Rattle.ptk_impact_answers.specs.Renaming.{cut, free_rename, is_taken, no_partition, rename_of, renames_of};
 
 use ptk_main_faults::Fault;
 use std::alloc::Global;
@@ -45,8 +45,8 @@ impl<'a> Model for Renames<'a> {
 
 impl<'a> Renames<'a> {
     /// The renames that a text states, `OLD=NEW` with commas between them; none where there is no text. A fault where
-    /// one is no such pair or there are more than eight, which names it as the name of no partition, or where memory
-    /// ran out.
+    /// one is no such pair, has the old or the new name of an earlier one, or there are more than eight, which names it
+    /// as the name of no partition, or where memory ran out.
     pub(crate) fn read(alloc: Global, text: Option<&'a str>) -> Result<Renames<'a>, Fault<'a>>
         ensures { MatchResult result
             (λ renames. renames_of text.entry ≡ Ok renames)
@@ -74,20 +74,40 @@ impl<'a> Renames<'a> {
         Err(Fault::NoPartition(rest))
     }
 
-    /// Adds the rename that a text states. A fault where it states none, which names it as the name of no partition, or
-    /// where memory ran out.
+    /// Adds the rename that a text states. A fault where it states none or one that has the old or the new name of one
+    /// of these, which names it as the name of no partition, or where memory ran out.
     fn add(&mut self, text: &'a str) -> Result<(), Fault<'a>>
         ensures { MatchResult result
-            (λ _. IsSomeAnd (rename_of text.now) (λ rename. self.new ≡ self.old ++ (rename ∷ [])))
-            (λ fault. fault ≢ Fault.NoMemory → (rename_of text.now ≡ None) × (told fault ≡ no_partition text.now)) }
+            (λ _. IsSomeAnd (free_rename self.old text.now) (λ rename. self.new ≡ self.old ++ (rename ∷ [])))
+            (λ fault. fault ≢ Fault.NoMemory → (free_rename self.old text.now ≡ None) × (told fault ≡ no_partition text.now)) }
     {
-        let Some(rename) = Rename::read(text) else {
+        let Some(rename) = self.free(text) else {
             return Err(Fault::NoPartition(text));
         };
         match self.items.push(rename) {
             Ok(()) => Ok(()),
             Err(_) => Err(Fault::NoMemory),
         }
+    }
+
+    /// The rename that a text states, None where it states none or one that has the old or the new name of one of
+    /// these.
+    fn free(&self, text: &'a str) -> Option<Rename<'a>>
+        ensures { result ≡ free_rename self.now text.now }
+    {
+        let rename = Rename::read(text)?;
+        if self.is_taken(&rename) {
+            None
+        } else {
+            Some(rename)
+        }
+    }
+
+    /// Whether one of these has the old or the new name of a rename.
+    fn is_taken(&self, rename: &Rename<'a>) -> bool
+        ensures { result ≡ is_taken self.now rename.now }
+    {
+        self.place_from(rename.old()).is_some() || self.place_to(rename.new()).is_some()
     }
 
     /// The renames, in the order written.

@@ -1,11 +1,12 @@
 use Rattle.std.proofs.Common.{◌≡◌, ℕ, List, subst, sym}
 use Rattle.std.specs.Prelude.{◌↔◌, IsOkAnd, Result, Ok}
 use Rattle.ptk_impact_answers.specs.declared.release.Release.{Release}
-use Rattle.ptk_impact_answers.specs.Counts.{IsClear}
+use Rattle.ptk_impact_formats.specs.Counts.{IsClear}
 use Rattle.ptk_impact_answers.specs.Matching.{Renamed}
 use Rattle.ptk_impact_answers.specs.SameRuns.{AreSameRuns}
 use Rattle.ptk_impact_answers.specs.Tallies.{AreCounts}
 use Rattle.ptk_impact_answers.specs.Written.{PutsInForm}
+use Rattle.ptk_impact_answers.proofs.Matched.{accepted_same, one_compared}
 use Rattle.ptk_impact_answers.proofs.answer.impact_in.Goals as goal
 
 -- what is said of these renames and releases is said of the same ones
@@ -18,8 +19,20 @@ said_of_same Said found renames old new before after is_old is_new is said =
 pub returns-in-Ok-clause-same : goal.returns-in-Ok-clause-same
 returns-in-Ok-clause-same g c =
     let kept = c.in_ok-releases.ensures.kept in
+    let releases = c.in_ok-releases.releases in
     said_of_same (λ renames old new. IsClear c.in-Ok.tally ↔ AreSameRuns renames c.args.question.partition old new)
-    _ c.in_ok-releases.releases.renames _ _ c.args.old c.args.new kept.0 kept.1 kept.2 c.in-Ok.ensures.same
+    _ releases.renames _ _ c.args.old c.args.new kept.0 kept.1 kept.2
+    (accepted_same (IsClear c.in-Ok.tally) c.args.question releases.renames releases.old releases.new c.args.old c.args.new kept.0 kept.1 kept.2
+    c.in_ok-releases.ensures.refused c.in-Ok.ensures.whole c.in-Ok.ensures.same)
+
+pub returns-in-Ok-clause-compared : goal.returns-in-Ok-clause-compared
+returns-in-Ok-clause-compared g c =
+    let kept = c.in_ok-releases.ensures.kept in
+    let releases = c.in_ok-releases.releases in
+    let same =
+    accepted_same (IsClear c.in-Ok.tally) c.args.question releases.renames releases.old releases.new c.args.old c.args.new kept.0 kept.1 kept.2
+    c.in_ok-releases.ensures.refused c.in-Ok.ensures.whole c.in-Ok.ensures.same in
+    λ clear. one_compared releases.renames c.args.question.partition releases.old releases.new c.in-Ok.tally c.in-Ok.ensures.counted (same.0 clear)
 
 pub returns-in-Ok-clause-counted : goal.returns-in-Ok-clause-counted
 returns-in-Ok-clause-counted g c =

@@ -1,6 +1,6 @@
 use Rattle.std.proofs.KnownBytes.{Appends-trans}
 use Rattle.std.proofs.lemmas.Result.{on_ok_weaker}
-use Rattle.ptk_impact_answers.specs.Documents.{other_counts_text, same_counts_text}
+use Rattle.ptk_impact_formats.specs.Documents.{other_counts_text, same_counts_text}
 use Rattle.ptk_impact_answers.proofs.form.put_end.Goals as goal
 
 pub returns : goal.returns

@@ -3,14 +3,14 @@ use Rattle.std.proofs.lemmas.Result.{IfOk-weaker}
 use Rattle.ptk_words.specs.declared.faults.ImageFault.{ImageFault}
 use Rattle.ptk_words.specs.declared.sections.Limits.{Limits}
 use Rattle.ptk_config.specs.Sections.{Section}
-use Rattle.ptk_impact.specs.Views.{section_of}
-use Rattle.ptk_impact.specs.declared.changes.Changes.{Changes}
-use Rattle.ptk_impact.specs.declared.impact.Impact.{Impact}
-use Rattle.ptk_impact.specs.declared.impact.Impact.TheVariants.{Changed}
-use Rattle.ptk_impact.specs.declared.subject.Subject.{Subject}
-use Rattle.ptk_main_runs.specs.Missing.{image_in}
-use Rattle.ptk_main_runs.specs.Refused.{refusal_of}
-use Rattle.ptk_impact_answers.specs.Comparisons.{refusal_if_changed}
+use Rattle.ptk_impact_formats.specs.Views.{section_of}
+use Rattle.ptk_impact_formats.below.ptk_impact.specs.declared.changes.Changes.{Changes}
+use Rattle.ptk_impact_formats.below.ptk_impact.specs.declared.impact.Impact.{Impact}
+use Rattle.ptk_impact_formats.below.ptk_impact.specs.declared.impact.Impact.TheVariants.{Changed}
+use Rattle.ptk_impact_formats.below.ptk_impact.specs.declared.subject.Subject.{Subject}
+use Rattle.ptk_impact_formats.specs.Missing.{image_in}
+use Rattle.ptk_impact_formats.specs.Refused.{refusal_of}
+use Rattle.ptk_impact_formats.specs.Comparisons.{refusal_if_changed}
 use Rattle.ptk_impact_answers.proofs.refusal.refusal_if_changed.Goals as goal
 
 -- the refusal of the numbers and the image that were read of a changed partition

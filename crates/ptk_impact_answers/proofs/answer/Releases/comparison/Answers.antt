@@ -1,6 +1,6 @@
 use Rattle.std.proofs.Common.{subst}
-use Rattle.ptk_impact.specs.Impact.{IsImpact}
-use Rattle.ptk_impact.specs.declared.subject.Subject.{Subject}
+use Rattle.ptk_impact_formats.specs.Impact.{IsImpact}
+use Rattle.ptk_impact_formats.below.ptk_impact.specs.declared.subject.Subject.{Subject}
 use Rattle.ptk_impact_answers.specs.SameRuns.{subject_at}
 use Rattle.ptk_impact_answers.proofs.answer.Releases.comparison.Goals as goal
 

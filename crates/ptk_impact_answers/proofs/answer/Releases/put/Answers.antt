@@ -1,6 +1,6 @@
 use Rattle.std.proofs.Common.{◌≡◌, ◌^◌, ◌<◌, ◌≤◌, List, length, subst, sym, arith}
 use Rattle.ptk_config.specs.Sections.{Section}
-use Rattle.ptk_impact_answers.specs.declared.tally.Tally.{Tally}
+use Rattle.ptk_impact_formats.specs.declared.tally.Tally.{Tally}
 use Rattle.ptk_impact_answers.specs.Tallies.{CountsAllNew}
 use Rattle.ptk_impact_answers.specs.Written.{PutsAllNew}
 use Rattle.ptk_impact_answers.proofs.HowMany.{are_counts}
@@ -9,6 +9,9 @@ use Rattle.ptk_impact_answers.proofs.answer.Releases.put.Goals as goal
 -- sections that were read are few
 few : (sections found : List Section) → sections ≡ found → length found ≤ 8 → length sections < 2 ^ 32
 few sections found same read = let within : length sections ≤ 8 = subst (λ (s : List Section). length s ≤ 8) (sym same) read in omega arith
+
+pub returns-clause-whole : goal.returns-clause-whole
+returns-clause-whole g c = (c.sections-old_sections.ensures.whole, c.sections-new_sections.ensures.whole)
 
 pub returns-clause-counted : goal.returns-clause-counted
 returns-clause-counted g c =

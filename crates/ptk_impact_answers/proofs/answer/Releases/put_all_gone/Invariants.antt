@@ -1,5 +1,5 @@
 use Rattle.std.specs.Prelude.{◌↔◌}
-use Rattle.ptk_impact_answers.specs.Counts.{IsClear}
+use Rattle.ptk_impact_formats.specs.Counts.{IsClear}
 use Rattle.ptk_impact_answers.specs.SameRuns.{AreStillThere}
 use Rattle.ptk_impact_answers.specs.Tallies.{CountsGone, InTurn}
 use Rattle.ptk_impact_answers.specs.Written.{PutsGone}

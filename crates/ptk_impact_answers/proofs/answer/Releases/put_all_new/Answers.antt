@@ -1,6 +1,6 @@
 use Rattle.std.proofs.Common.{◌≡◌, ◌∙◌, List, length, refl, ap, arith}
 use Rattle.ptk_config.specs.Sections.{Section}
-use Rattle.ptk_impact_answers.specs.Counts.{IsClear}
+use Rattle.ptk_impact_formats.specs.Counts.{IsClear}
 use Rattle.ptk_impact_answers.specs.SameRuns.{WasSeenAlikeIfAsked}
 use Rattle.ptk_impact_answers.specs.Tallies.{CountsNew}
 use Rattle.ptk_impact_answers.specs.Written.{PutsNew}

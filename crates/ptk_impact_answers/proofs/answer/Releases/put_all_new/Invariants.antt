@@ -1,5 +1,5 @@
 use Rattle.std.specs.Prelude.{◌↔◌}
-use Rattle.ptk_impact_answers.specs.Counts.{IsClear}
+use Rattle.ptk_impact_formats.specs.Counts.{IsClear}
 use Rattle.ptk_impact_answers.specs.SameRuns.{WereSeenAlike}
 use Rattle.ptk_impact_answers.specs.Tallies.{CountsNew, InTurn}
 use Rattle.ptk_impact_answers.specs.Written.{PutsNew}

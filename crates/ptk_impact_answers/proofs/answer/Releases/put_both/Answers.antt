@@ -1,6 +1,6 @@
 use Rattle.std.proofs.Common.{ap}
 use Rattle.ptk_impact_answers.specs.SameRuns.{subject_at}
-use Rattle.ptk_impact_answers.specs.Counts.{IsClear}
+use Rattle.ptk_impact_formats.specs.Counts.{IsClear}
 use Rattle.ptk_impact_answers.proofs.Counting.{alike_counted}
 use Rattle.ptk_impact_answers.proofs.answer.Releases.put_both.Goals as goal
 

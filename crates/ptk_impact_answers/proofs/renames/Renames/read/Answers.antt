@@ -3,22 +3,21 @@ use Rattle.std.specs.Prelude.{◌≢◌, IsSomeAnd, Err}
 use Rattle.ptk_main_faults.specs.declared.fault.Fault.TheVariants.{NoMemory}
 use Rattle.ptk_main_faults.specs.Told.{told}
 use Rattle.ptk_impact_answers.specs.Matching.{Renamed}
-use Rattle.ptk_impact_answers.specs.Renaming.{before, no_partition, rename_of, renames_in, renames_of}
-use Rattle.ptk_impact_answers.proofs.Renaming.{last_added, last_refused, nothing_read, one_added, one_refused, too_many}
+use Rattle.ptk_impact_answers.specs.Renaming.{free_rename, no_partition, renames_in, renames_of}
+use Rattle.ptk_impact_answers.proofs.Renaming.{last_added, last_refused, one_added, one_refused, too_many}
 use Rattle.ptk_impact_answers.proofs.renames.Renames.read.Goals as goal
 
 pub loop-taken-init : goal.loop-taken-init
 loop-taken-init c = (
   search rules,
-  nothing_read (renames_of c.args.text) 8 c.in-Some.text.now (ap renames_of c.in-Some.is)
-      ∙ ap (λ (found : List Renamed). before found (renames_in 8 c.in-Some.text.now)) (sym c.new.ensures.items),
+  ap renames_of c.in-Some.is ∙ ap (λ (found : List Renamed). renames_in 8 found c.in-Some.text.now) (sym c.new.ensures.items),
 )
 
 pub loop-taken-preserved : goal.loop-taken-preserved
 loop-taken-preserved c =
     let l = c.loop-taken in
     let more : 8 - l._taken ≡ suc (8 - (l._taken + 1)) = omega (arith, c.loop-taken-test.true) in
-    let added : IsSomeAnd (rename_of c.in-Some-cut.first.now) (λ rename. c.add.new.self ≡ l.renames ++ (rename ∷ [])) = c.in_ok-add-in-Some-cut.ensures in (
+    let added : IsSomeAnd (free_rename l.renames c.in-Some-cut.first.now) (λ rename. c.add.new.self ≡ l.renames ++ (rename ∷ [])) = c.in_ok-add-in-Some-cut.ensures in (
       search rules,
       one_added (renames_of c.args.text) l.renames _ _ l.rest.now l.invariant.1 more c.in-Some-cut.first.now c.in-Some-cut.others.now c.add.new.self
           c.in-Some-cut.ensures added,
@@ -28,7 +27,7 @@ pub returns-in-None : goal.returns-in-None
 returns-in-None c =
     let l = c.loop-taken in
     let more : 8 - l._taken ≡ suc (8 - (l._taken + 1)) = omega (arith, c.loop-taken-test.true) in
-    let added : IsSomeAnd (rename_of l.rest.now) (λ rename. c.add-in-None.new.self ≡ l.renames ++ (rename ∷ [])) = c.in_ok-add-in-None.ensures in
+    let added : IsSomeAnd (free_rename l.renames l.rest.now) (λ rename. c.add-in-None.new.self ≡ l.renames ++ (rename ∷ [])) = c.in_ok-add-in-None.ensures in
     last_added (renames_of c.args.text) l.renames _ _ l.rest.now l.invariant.1 more c.add-in-None.new.self c.in-None.ensures added
 
 pub returns-in_err-add-in-Some-cut : goal.returns-in_err-add-in-Some-cut

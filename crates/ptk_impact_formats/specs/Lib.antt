@@ -1,0 +1,11 @@
+pub mod Comparisons
+pub mod Counts
+pub mod Documents
+pub mod Lines
+pub use Rattle.ptk_impact.specs.Deeper
+pub use Rattle.ptk_impact.specs.Impact
+pub use Rattle.ptk_impact.specs.Views
+pub use Rattle.ptk_impact.specs.World
+pub use Rattle.ptk_main_runs.specs.Missing
+pub use Rattle.ptk_main_runs.specs.Parts
+pub use Rattle.ptk_main_runs.specs.Refused

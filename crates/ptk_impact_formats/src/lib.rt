@@ -1,0 +1,27 @@
+#![tactic(auto)]
+
+//! What is told of one partition that two configurations are compared about, as lines or as a JSON object, and how many
+//! partitions have which impact.
+//!
+//! - A partition that both configurations have is told by a line with its name and its answer, then what differs and
+//!   why boot refuses its images, a line each, in their order (`put_lines`: `comparison_lines`), or by one JSON object
+//!   with the same (`json_of`: `IsCompared`).
+//! - One that a single configuration has is told by its line (`put_answer`: `answer_line`), or by an object
+//!   (`json_of_alone`: `IsAlone`).
+//! - The counts go up by one for each partition, and say that a run is the same only where none is changed, new or gone
+//!   (`Tally`: `counted`, `IsClear`); as words they are `counts_words`.
+//!
+//! Below are the comparison (`ptk_impact`) and the members of JSON objects (`ptk_main_runs`); above is the whole answer
+//! (`ptk_impact_answers`). No clause is costly to prove.
+
+mod comparison;
+mod document;
+mod lines;
+mod tally;
+
+pub use comparison::{Comparison, Pair};
+pub use document::{json_of, json_of_alone};
+pub use lines::{put_answer, put_lines};
+pub use ptk_impact::{Impact, Subject};
+pub use ptk_main_runs::{PutFault, part_named};
+pub use tally::Tally;
