@@ -13,7 +13,7 @@ run_told world to p histories told = record {
   since = λ begun some.
       let same : max world.tick to ≡ to = omega (arith, begun) in
       (subst (λ (k : ℕ). AreOfRun world k p histories) (sym same) told).since begun some;
-  seen = (told.seen.0, looks_to world.tick to (max world.tick to) told.seen.0 (omega arith) told.seen.1, told.seen.2);
+  seen = (told.seen.0, looks_to world p to (max world.tick to) told.seen.0 (omega arith) (omega arith) told.seen.1, told.seen.2);
 }
 
 pub explanation_told : (form : Form) (symbols : List (ℕ × List ℕ)) (now world : World) (to p : ℕ) (items shown : List History) (empty written : List Byte) → now ≡ at_tick (max world.tick to) world → shown ≡ items

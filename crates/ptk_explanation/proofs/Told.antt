@@ -7,12 +7,12 @@ use Rattle.ptk_words.specs.Names.{Byte}
 use Rattle.ptk_words_model.specs.Text.{cause_text}
 use Rattle.ptk_explanation_facts.specs.declared.facts.Stop.{Stop}
 use Rattle.ptk_explanation_facts.specs.declared.facts.ThreadFacts.{ThreadFacts}
-use Rattle.ptk_explanation.specs.declared.target.Target.{Target}
+use Rattle.ptk_explanation_facts.specs.declared.target.Target.{Target}
 use Rattle.ptk_explanation_facts.specs.Facts.{live_pc, live_stack}
 use Rattle.ptk_explanation.specs.Members.{all_members, fact_member, number_member, shown_member, text_member}
 use Rattle.ptk_explanation.specs.Objects.{ceiling_awaited, owner_awaited, protocol_awaited, stop_members, thread_members, type_awaited}
 use Rattle.ptk_explanation_facts.specs.Stops.{said_of}
-use Rattle.ptk_explanation.specs.Targets.{aim_in, aim_of}
+use Rattle.ptk_explanation_facts.specs.Targets.{aim_in, aim_of}
 use Rattle.ptk_explanation.specs.Words.{name_of_policy}
 
 -- a text that may be missing, as a value of JSON

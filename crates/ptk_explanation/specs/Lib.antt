@@ -2,5 +2,4 @@ pub mod Explanations
 pub mod Lines
 pub mod Members
 pub mod Objects
-pub mod Targets
 pub mod Words

@@ -25,7 +25,7 @@ use Rattle.ptk_explanation_facts.specs.Members.{members_of}
 use Rattle.ptk_explanation.specs.Members.{all_members, fact_member, number_data, number_member, object_text, text_member}
 use Rattle.ptk_explanation_facts.specs.Standing.{standing_of, word_of_standing}
 use Rattle.ptk_explanation_facts.specs.Stops.{Stopped, stop_in}
-use Rattle.ptk_explanation.specs.Targets.{aim_of}
+use Rattle.ptk_explanation_facts.specs.Targets.{aim_of}
 use Rattle.ptk_explanation.specs.Words.{ceiling_in, name_of_policy, name_of_protocol, name_of_type}
 
 -- ---- places

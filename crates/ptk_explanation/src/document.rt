@@ -11,11 +11,10 @@ ghost use Rattle.ptk_explanation_facts.specs.Standing.{standing_of, word_of_stan
 ghost use Rattle.ptk_explanation_facts.specs.Stops.{said_of, stop_in};
 
 use crate::members::{Member, MemberValue, comma_unless, push_members, push_text};
-use crate::target::Target;
 use crate::words::{ceiling_of, policy_name, protocol_name, type_name};
 use ptk_explanation_facts::{
-    Awaited, History, PartStatus, REGISTERS, Stop, System, ThreadFacts, begins_cycle, cause_word,
-    following, name_of, standing, thread_count,
+    Awaited, History, PartStatus, REGISTERS, Stop, System, Target, ThreadFacts, begins_cycle,
+    cause_word, following, name_of, standing, thread_count,
 };
 use ptk_symbols::{Symbols, text_in};
 use ptk_words::{Cause, Cpu, Owner, PartId, ThreadNo};

@@ -17,7 +17,6 @@ mod answer;
 mod document;
 mod lines;
 mod members;
-mod target;
 mod words;
 
 pub use answer::{Form, explain_partition_with};

@@ -1,14 +1,17 @@
 -- Since when a thread does what it does: what its history says goes on from look to look.
 use Rattle.std.proofs.Common.{◌≡◌, ℕ, ◌+◌, ◌<◌, ◌≤◌, ◌⊎◌, Bool, true, false, List, [], ◌∷◌, ◌++◌, drop, take, length, max, refl, sym, ◌∙◌, ap, subst, arith, inl, inr}
-use Rattle.std.specs.Prelude.{if◌then◌else◌, slice_index_or}
+use Rattle.std.specs.Prelude.{Some, if◌then◌else◌, slice_index_or}
 use Rattle.std.specs.Cmp.{IsEquivalence}
 use Rattle.std.proofs.lemmas.Bool.{cases_order}
 use Rattle.std.proofs.lemmas.List.{get_or-replicate, length-replicate, take-append-le, take_all}
 use Rattle.ptk_words_parted.specs.Parts.{filled}
 use Rattle.ptk_words.specs.declared.TheConstants.{THREAD_LIMIT}
+use Rattle.ptk_words.specs.declared.sections.Entry.{Entry}
 use Rattle.ptk_words_model.specs.State.{Part, State}
 use Rattle.ptk_main_runs.specs.Activity.{Activity}
+use Rattle.ptk_main_runs.specs.Activity.TheVariants.{Running}
 use Rattle.ptk_main_runs.specs.Activities.{activity_in}
+use Rattle.ptk_main_runs.specs.Going.{DoTheSame, GoesOnAsIs}
 use Rattle.ptk_main_runs.specs.World.{World, at_tick, but_next, state_of}
 use Rattle.ptk_explanation_facts.specs.declared.history.History.{History}
 use Rattle.ptk_explanation_facts.specs.Histories.{AreLooked, AreLooks, AreNew, AreOver, AreSince, IsSince, history_over, is_at, looked, no_history}
@@ -117,28 +120,49 @@ all_stayed is_same law world p from to histories order stays are = λ place defa
 
 -- ---- from look to look
 
-rests_at : (world : World) (p m next : ℕ) → ((k : ℕ) → m ≤ k → k ≤ next → but_next (state_of (at_tick k world) p) ≡ but_next (state_of (at_tick m world) p)) → (t k : ℕ) → m ≤ k → k ≤ next
-    → activity_in t (state_of (at_tick k world) p).part ≡ activity_in t (state_of (at_tick m world) p).part
-rests_at world p m next rests t k from to = ap (λ (s : State). activity_in t s.part) (rests k from to)
+-- a partition that goes on as is, and of which then nothing changes, goes on as is
+pub goes_still : (world : World) (p m next : ℕ) → world.tick ≤ m → GoesOnAsIs world p m
+    → ((k : ℕ) → m ≤ k → k ≤ next → but_next (state_of (at_tick k world) p) ≡ but_next (state_of (at_tick m world) p)) → GoesOnAsIs world p next
+goes_still world p m next begun goes rests = record { threads = threads; lost = lost; steps = steps }
+  where
+    threads : (k : ℕ) → world.tick ≤ k → k ≤ next → DoTheSame (state_of world p).part (state_of (at_tick k world) p).part
+    threads k from to = elim (cases_order k m) [
+      | inl same ↦ goes.threads k from (omega (arith, same))
+      | inr order ↦ elim order [
+        | inl before ↦ goes.threads k from (omega (arith, before))
+        | inr behind ↦ subst (λ (s : State). DoTheSame (state_of world p).part s.part) (sym (rests k (omega (arith, behind)) to)) (goes.threads m begun (omega arith))
+      ]
+    ]
 
--- a row of plain steps, and then nothing up to the next look
-pub stays_over : (world : World) (p tick m next after : ℕ) → tick + 1 ≤ m → after ≡ max next (tick + 1) → ((t k : ℕ) → tick + 1 ≤ k → k ≤ m → activity_in t (state_of (at_tick k world) p).part ≡ activity_in t (state_of (at_tick (tick + 1) world) p).part)
-    → ((k : ℕ) → m ≤ k → k ≤ next → but_next (state_of (at_tick k world) p) ≡ but_next (state_of (at_tick m world) p)) → (t k : ℕ) → tick + 1 ≤ k → k ≤ after
-    → activity_in t (state_of (at_tick k world) p).part ≡ activity_in t (state_of (at_tick (tick + 1) world) p).part
-stays_over world p tick m next after first is goes rests t k from to = elim (cases_order k m) [
-  | inl same ↦ goes t k from (omega (arith, same))
-  | inr order ↦ elim order [
-    | inl before ↦ goes t k from (omega (arith, before))
-    | inr behind ↦ rests_at world p m next rests t k (omega (arith, behind)) (omega (arith, behind, to, is, first)) ∙ goes t m first (omega arith)
-  ]
-]
+    lost : (k : ℕ) → world.tick ≤ k → k ≤ next → (state_of (at_tick k world) p).account.lost ≡ (state_of world p).account.lost
+    lost k from to = elim (cases_order k m) [
+      | inl same ↦ goes.lost k from (omega (arith, same))
+      | inr order ↦ elim order [
+        | inl before ↦ goes.lost k from (omega (arith, before))
+        | inr behind ↦ ap (λ (s : State). s.account.lost) (rests k (omega (arith, behind)) to) ∙ goes.lost m begun (omega arith)
+      ]
+    ]
+
+    none : (k : ℕ) → m ≤ k → k < next → (state_of (at_tick (k + 1) world) p).account.steps ≡ (state_of (at_tick k world) p).account.steps
+    none k from to = ap (λ (s : State). s.account.steps) (rests (k + 1) (omega (arith, from)) (omega (arith, to)) ∙ sym (rests k from (omega (arith, to))))
+
+    steps : (k : ℕ) → world.tick ≤ k → k < next → (state_of (at_tick k world) p).account.steps < (state_of (at_tick (k + 1) world) p).account.steps
+        → (entry : Entry) → (state_of (at_tick (k + 1) world) p).part.last ≡ Some entry → activity_in entry.thread (state_of world p).part ≡ Running
+    steps k from to more entry last = elim (cases_order k m) [
+      | inl same ↦ absurd (omega (arith, more, none k (omega (arith, same)) to))
+      | inr order ↦ elim order [
+        | inl before ↦ goes.steps k from before more entry last
+        | inr behind ↦ absurd (omega (arith, more, none k (omega (arith, behind)) to))
+      ]
+    ]
 
 -- ---- what is seen
 
--- the looks of a run are those of one that ends elsewhere, if it goes no further than that or than where it begins
-pub looks_to : (from now to : ℕ) (looks : List ℕ) → now ≤ max from to → AreLooks from now looks → AreLooks from to looks
-looks_to from now to [] within are = tt
-looks_to from now to (tick ∷ earlier) within are = (are.0, omega (arith, are.0, are.1, within), are.2)
+-- the looks of a run are those of one that ends at the same tick, or that makes no tick either
+pub looks_to : (world : World) (p now to : ℕ) (looks : List ℕ) → now ≤ max world.tick to → to ≤ max world.tick now → AreLooks world p now looks → AreLooks world p to looks
+looks_to world p now to [] within reach are = omega (arith, reach, are)
+looks_to world p now to (tick ∷ earlier) within reach are =
+    let same : now ≡ to = omega (arith, within, reach, are.0, are.1) in subst (λ (k : ℕ). AreLooks world p k (tick ∷ earlier)) same are
 
 pub over_none : (is_same : Activity → Activity → Bool) (world : World) (p : ℕ) (histories : List History) → AreNew histories → AreOver is_same world p [] histories
 over_none is_same world p histories new = λ place default within few. new place default within

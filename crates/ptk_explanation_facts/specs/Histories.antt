@@ -6,6 +6,7 @@ use Rattle.ptk_words_model.specs.State.{Part}
 use Rattle.ptk_main_runs.specs.Activity.{Activity}
 use Rattle.ptk_main_runs.specs.Activity.TheVariants.{Free, Running, Ready, Blocked, Ended, Halted}
 use Rattle.ptk_main_runs.specs.Activities.{activity_in}
+use Rattle.ptk_main_runs.specs.Going.{GoesOnAsIs}
 use Rattle.ptk_main_runs.specs.Told.{register_in}
 use Rattle.ptk_main_runs.specs.World.{World, at_tick, state_of}
 use Rattle.ptk_explanation_facts.specs.declared.history.History.{History}
@@ -46,10 +47,10 @@ AreLooked is_same s tick before after =
 
 -- ---- over a run
 
--- the ticks of looks, the last one first, each in a run from one tick to another (own)
-abbrev pub AreLooks : Tick → Tick → List Tick → Type 0
-AreLooks from to [] = Unit {0}
-AreLooks from to (tick ∷ earlier) = (from ≤ tick) × (tick < to) × AreLooks from tick earlier
+-- the ticks of looks in a run to a tick, the last one first: the first look is at the run's first tick, and from behind each look on the partition goes on as is, up to the next look or to the end of the run (own)
+abbrev pub AreLooks : World → ℕ → Tick → List Tick → Type 0
+AreLooks world p to [] = to ≤ world.tick
+AreLooks world p to (tick ∷ earlier) = (world.tick ≤ tick) × (tick < to) × GoesOnAsIs (at_tick (tick + 1) world) p to × AreLooks world p tick earlier
 
 -- what is seen of the thread of a number after the decisions at these ticks of a run, the last one first: its least stack pointer is the least at those since its number was free (own)
 abbrev pub history_over : (Activity → Activity → Bool) → World → ℕ → ThreadNumber → List Tick → History
@@ -61,9 +62,9 @@ abbrev pub AreOver : (Activity → Activity → Bool) → World → ℕ → List
 AreOver is_same world p looks histories =
     (place : ℕ) (default : History) → place < length histories → place < THREAD_LIMIT → slice_index_or histories place default ≡ history_over is_same world p (place + 1) looks
 
--- the histories are what is seen at some ticks of the run to a tick, perhaps at none (own)
+-- the histories are what is seen at ticks of the run to a tick: at each but those over which the partition goes on as is (own)
 abbrev pub AreSeenTo : (Activity → Activity → Bool) → World → ℕ → Tick → List History → Type 0
-AreSeenTo is_same world p to histories = (looks : List Tick) × AreLooks world.tick to looks × AreOver is_same world p looks histories
+AreSeenTo is_same world p to histories = (looks : List Tick) × AreLooks world p to looks × AreOver is_same world p looks histories
 
 -- ---- since when
 

@@ -4,6 +4,7 @@ pub mod Histories
 pub mod Refusals
 pub mod Standing
 pub mod Stops
+pub mod Targets
 pub use Rattle.ptk_main_runs.specs.Activities
 pub use Rattle.ptk_main_runs.specs.Activity
 pub use Rattle.ptk_main_runs.specs.Members

@@ -1,13 +1,13 @@
 use Rattle.std.proofs.Common.{◌≡◌, ℕ, ◌+◌, [], ◌∷◌, ◌∙◌, ap, subst, sym, max, length, ◌<◌, ◌≤◌, refl, arith}
 use Rattle.ptk_words.specs.declared.TheConstants.{LAST_TICK}
 use Rattle.ptk_config.specs.Configuration.{Configuration}
-use Rattle.ptk_main_runs.specs.Activities.{activity_in}
 use Rattle.ptk_main_runs.below.ptk_system.specs.contracts.activity.ActivityEq.TheImpl.Laws.{laws-law}
 use Rattle.ptk_main_runs.below.ptk_system.specs.contracts.activity.ActivityPartialEq.TheImpl as activity_eq
+use Rattle.ptk_main_runs.specs.Going.{GoesOnAsIs}
 use Rattle.ptk_main_runs.specs.World.{World, at_tick, but_next, state_of}
 use Rattle.ptk_main_runs.proofs.Keeping.{at_again}
 use Rattle.ptk_explanation_facts.specs.Histories.{AreSince}
-use Rattle.ptk_explanation_facts.proofs.Sinces.{all_looked, all_seen, all_since, all_stayed, looks_to, none_seen, over_more, over_none, stays_over}
+use Rattle.ptk_explanation_facts.proofs.Sinces.{all_looked, all_seen, all_since, all_stayed, goes_still, looks_to, none_seen, over_more, over_none}
 use Rattle.ptk_explanation_facts.proofs.history.watch.Goals as goal
 
 pub loop-tick-init : goal.loop-tick-init
@@ -19,7 +19,7 @@ loop-tick-init c = record {
   to = omega arith;
   behind = omega arith;
   end = omega arith;
-  over = λ new. ([], tt, over_none (activity_eq.ghosts).eq c.args.system.now c.args.p c.args.histories.now new);
+  over = λ new. ([], omega (arith, c.ticks-tick.ensures, c.tick.ensures), over_none (activity_eq.ghosts).eq c.args.system.now c.args.p c.args.histories.now new);
   seen = λ begun new. none_seen (activity_eq.ghosts).eq c.args.system.now c.args.p c.ticks-tick.result c.args.histories.now (omega (arith, begun, c.ticks-tick.ensures, c.tick.ensures)) new;
 }
 
@@ -44,14 +44,13 @@ loop-tick-preserved c =
     (λ j from on.
     let same : j ≡ c.compute_to.new.self.tick = omega (arith, from, on) in
     ap (λ (k : ℕ). but_next (state_of (at_tick k c.compute_to.new.self) c.args.p)) same ∙ ap but_next at_once) in
-    let rests : (k : ℕ) → c.compute_to.new.self.tick ≤ k → k ≤ c.ticks-next.result → but_next (state_of (at_tick k first) c.args.p) ≡ but_next (state_of (at_tick c.compute_to.new.self.tick first) c.args.p) =
-    λ k le on. ap but_next (sym (here k)) ∙ (c.stays_until.ensures.stays k le (omega (arith, on, c.ticks-next.ensures)) ∙ ap (λ (w : World). but_next (state_of w c.args.p)) run) in
-    let goes : (t k : ℕ) → c.loop-tick.tick + 1 ≤ k → k ≤ c.compute_to.new.self.tick
-    → activity_in t (state_of (at_tick k first) c.args.p).part ≡ activity_in t (state_of (at_tick (c.loop-tick.tick + 1) first) c.args.p).part =
-    λ t k begun on.
-    ap (λ (w : World). activity_in t (state_of (at_tick k w) c.args.p).part) (sym looked_at)
-    ∙ (((c.compute_to.ensures.steady c.args.p within).threads k (omega (arith, begun, next_tick)) on).activities t
-    ∙ ap (λ (w : World). activity_in t (state_of w c.args.p).part) looked_at) in
+    let on : c.max-after.result ≡ c.stays_until.result = omega (arith, after, c.ticks-next.ensures, reach, next_tick, c.compute_to.ensures.from) in
+    let goes : GoesOnAsIs (at_tick (c.loop-tick.tick + 1) first) c.args.p c.max-after.result =
+    goes_still (at_tick (c.loop-tick.tick + 1) first) c.args.p c.compute_to.new.self.tick c.max-after.result (omega (arith, next_tick, c.compute_to.ensures.from))
+    (subst (λ (w : World). GoesOnAsIs w c.args.p c.compute_to.new.self.tick) looked_at (c.compute_to.ensures.steady c.args.p within))
+    (λ k from to.
+    ap but_next (sym (here k))
+    ∙ (c.stays_until.ensures.stays k from (omega (arith, on, to)) ∙ (ap (λ (w : World). but_next (state_of w c.args.p)) run))) in
     record {
       config = config;
       within = subst (λ (k : Configuration). c.args.p < length k.sections) (sym config) c.requires.partition;
@@ -63,14 +62,14 @@ loop-tick-preserved c =
       over = λ new.
           let until = so.over new in (
             c.loop-tick.tick ∷ until.0,
-            (omega (arith, so.from, so.behind), omega (arith, after), until.1),
+            (omega (arith, so.from, so.behind), omega (arith, after), goes, until.1),
             over_more (activity_eq.ghosts).eq first c.args.p c.loop-tick.tick (state_of c.run_to.new.self c.args.p).part until.0 c.loop-tick.histories c.look_at_all.new.histories
                 (ap (λ (w : World). (state_of w c.args.p).part) looked_at) (omega arith) c.look_at_all.ensures until.2,
           );
       seen = λ begun new.
           all_seen (activity_eq.ghosts).eq first c.args.p c.max-after.result c.look_at_all.new.histories
           (all_stayed (activity_eq.ghosts).eq laws-law first c.args.p (c.loop-tick.tick + 1) c.max-after.result c.look_at_all.new.histories (omega (arith, after))
-          (stays_over first c.args.p c.loop-tick.tick c.compute_to.new.self.tick c.ticks-next.result c.max-after.result (omega (arith, next_tick, c.compute_to.ensures.from)) after goes rests)
+          (λ t k from to. (goes.threads k from to).activities t)
           (all_looked (activity_eq.ghosts).eq laws-law first c.args.p c.loop-tick.tick (state_of c.run_to.new.self c.args.p).part c.loop-tick.histories c.look_at_all.new.histories
           (ap (λ (w : World). (state_of w c.args.p).part) looked_at) (omega arith) c.look_at_all.ensures (so.seen begun new)));
     }
@@ -90,5 +89,8 @@ returns-clause-since c = λ begun some new.
 
 pub returns-clause-seen : goal.returns-clause-seen
 returns-clause-seen c = λ new.
-    let until = c.loop-tick.invariant.over new in
-    (until.0, looks_to c.args.system.now.tick c.loop-tick.tick c.args.to until.0 c.loop-tick.invariant.end until.1, until.2)
+    let until = c.loop-tick.invariant.over new in (
+      until.0,
+      looks_to c.args.system.now c.args.p c.loop-tick.tick c.args.to until.0 c.loop-tick.invariant.end (omega (arith, c.ticks-end.ensures)) until.1,
+      until.2,
+    )

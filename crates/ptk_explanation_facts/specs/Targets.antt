@@ -4,9 +4,9 @@ use Rattle.ptk_words.specs.Names.{Byte, ConditionNumber, MutexNumber, ThreadNumb
 use Rattle.ptk_words.specs.Threads.{condition_of_wait, deadline_of_wait}
 use Rattle.ptk_words.specs.declared.threads.Wait.{Wait}
 use Rattle.ptk_words.specs.declared.threads.Wait.TheVariants.{InputWait, SleepWait, JoinWait, MutexWait, ConditionWait, RelockWait}
-use Rattle.ptk_explanation_facts.specs.Activity.{Activity}
-use Rattle.ptk_explanation_facts.specs.Activity.TheVariants as activity
-use Rattle.ptk_explanation.specs.declared.target.Target.{Target}
+use Rattle.ptk_main_runs.specs.Activity.{Activity}
+use Rattle.ptk_main_runs.specs.Activity.TheVariants as activity
+use Rattle.ptk_explanation_facts.specs.declared.target.Target.{Target}
 
 -- the word for what a thread does, and the numbers of what it waits for (own)
 pub record Aim : Type 0 where

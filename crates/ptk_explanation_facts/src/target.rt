@@ -2,24 +2,24 @@
 
 ghost use Rattle.std.specs.Prelude.{◌≡◌};
 ghost use Rattle.ptk_words.specs.Threads.{condition_of_wait, deadline_of_wait};
-ghost use Rattle.ptk_explanation.specs.Targets.{aim_in, aim_of, aim_of_wait, joined_by, no_aim, target_mutex, word_of_wait};
+ghost use Rattle.ptk_explanation_facts.specs.Targets.{aim_in, aim_of, aim_of_wait, joined_by, no_aim, target_mutex, word_of_wait};
 
-use ptk_explanation_facts::Activity;
+use ptk_main_runs::Activity;
 use ptk_words::Wait;
 
 /// What a wait is for.
 #[derive(Clone, Copy)]
-pub(crate) struct Target {
+pub struct Target {
     /// The word for what the thread does.
-    pub(crate) activity: &'static str,
+    pub activity: &'static str,
     /// The mutex that it is to have.
-    pub(crate) mutex: Option<u8>,
+    pub mutex: Option<u8>,
     /// The condition variable that it waits on.
-    pub(crate) condition: Option<u8>,
+    pub condition: Option<u8>,
     /// The thread for whose end it waits.
-    pub(crate) joins: Option<u8>,
+    pub joins: Option<u8>,
     /// The tick at which it ends by itself.
-    pub(crate) deadline: Option<u64>,
+    pub deadline: Option<u64>,
 }
 
 impl Target {
@@ -36,8 +36,8 @@ impl Target {
         }
     }
 
-    /// Of what a thread does.
-    pub(crate) fn of(activity: &Activity) -> Target
+    /// Of what a thread does: its word, and what it waits for, if it does.
+    pub fn of(activity: &Activity) -> Target
         ensures { aim_in result ≡ aim_of activity.now }
     {
         match activity {
