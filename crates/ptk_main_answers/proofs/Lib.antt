@@ -4,5 +4,6 @@ pub mod Runs
 pub mod JsonTexts
 pub mod Documents
 pub mod TraceLines
+pub mod TraceTicks
 pub mod Worded
 pub mod Watching

@@ -14,6 +14,7 @@ use Rattle.ptk_main_runs.specs.Told.{is_halted, status_in}
 use Rattle.ptk_main_runs.specs.World.{World, at_tick, state_of, world_at}
 use Rattle.ptk_main_answers.specs.Expectations.{AreHalted, IsEnd, IsFailed, IsFailedOn, IsFailure, IsHaltLook, IsNoFailure, IsOnWay, IsPassed, IsReported, IsUnlike}
 use Rattle.ptk_main_answers.specs.Images.{part_name}
+use Rattle.ptk_main_answers.specs.Watching.{HasWatched}
 use Rattle.ptk_main_answers.specs.declared.run.RunQuestion.{RunQuestion}
 use Rattle.ptk_main_answers.specs.declared.run.TheConstants.{HALT_STRIDE, WATCH_STRIDE}
 
@@ -93,6 +94,18 @@ passed_at question config files booted w old new boot run end reported partition
   subst (λ (u : World). IsPassed question u old new) (reached config files booted w boot run)
       (record { end = end; reported = reported; partitions = partitions }),
 )
+
+-- who watched a booted system that went on has watched it from the first tick
+pub watched_at : {V : Type 0} (sees : V → ℕ → ℕ → V → Type 0) (question : RunQuestion) (config : Configuration) (files : List NamedFile) (booted w : World) (before after : V) → booted ≡ world_at config files 0
+    → w ≡ at_tick w.tick booted → IsEnd question.until_halted question.ticks w → (ticks : List ℕ) × HasWatched sees question.ticks booted.tick w.tick ticks before after
+    → (n : ℕ) × IsEnd question.until_halted question.ticks (world_at config files n) × (ticks : List ℕ) × HasWatched sees question.ticks 0 n ticks before after
+watched_at sees question config files booted w before after boot run end seen =
+    let first : booted.tick ≡ 0 = ap (λ (u : World). u.tick) boot in (
+      w.tick,
+      subst (λ (u : World). IsEnd question.until_halted question.ticks u) (reached config files booted w boot run) end,
+      seen.0,
+      subst (λ (n : ℕ). HasWatched sees question.ticks n w.tick seen.0 before after) first seen.1,
+    )
 
 pub failed_at : (question : RunQuestion) (config : Configuration) (files : List NamedFile) (booted w : World) (old new : Option (List ℕ)) (fault : Fault) → booted ≡ world_at config files 0 → w ≡ at_tick w.tick booted
     → IsEnd question.until_halted question.ticks w → IsUnlike question w old new fault ⊎ (IsReported question w old new × IsFailedOn question.fail_on w fault)

@@ -137,10 +137,10 @@ word_read n h = ap (λ (o : Option ℕ). option_and_then word_if (option_map cap
 step_read : (e : Entry) → IsTraced e → step_if (tick_in (decimal e.tick)) (thread_in (decimal e.thread)) (word_in (hex_word e.pc)) (word_in (hex_word e.word)) (word_in (hex_word e.a0)) ≡ Some e
 step_read e is =
     let tick : tick_in (decimal e.tick) ≡ Some e.tick = tick_read e.tick is.early in
-    let thread : thread_in (decimal e.thread) ≡ Some e.thread = thread_read e.thread is.positive is.in_range in
-    let pc : word_in (hex_word e.pc) ≡ Some e.pc = word_read e.pc is.pc_fits in
-    let word : word_in (hex_word e.word) ≡ Some e.word = word_read e.word is.word_fits in
-    let a0 : word_in (hex_word e.a0) ≡ Some e.a0 = word_read e.a0 is.a0_fits in
+    let thread : thread_in (decimal e.thread) ≡ Some e.thread = thread_read e.thread is.step.positive is.step.in_range in
+    let pc : word_in (hex_word e.pc) ≡ Some e.pc = word_read e.pc is.step.pc_fits in
+    let word : word_in (hex_word e.word) ≡ Some e.word = word_read e.word is.step.word_fits in
+    let a0 : word_in (hex_word e.a0) ≡ Some e.a0 = word_read e.a0 is.step.a0_fits in
     λ i. step_if (tick i) (thread i) (pc i) (word i) (a0 i)
 
 -- ---- the line of a step
@@ -206,7 +206,7 @@ pub fields_plain : (e : Entry) → IsTraced e → list_all is_plain (fields e) �
 unfolding fields
 fields_plain e is =
     five_plain (decimal e.tick) (decimal e.thread) (hex_word e.pc) (hex_word e.word) (hex_word e.a0)
-    (decimal_solid e.tick (omega (arith, is.early))) (decimal_solid e.thread (omega (arith, is.in_range))) (word_solid e.pc) (word_solid e.word) (word_solid e.a0)
+    (decimal_solid e.tick (omega (arith, is.early))) (decimal_solid e.thread (omega (arith, is.step.in_range))) (word_solid e.pc) (word_solid e.word) (word_solid e.a0)
 
 pub trace_fields : (e : Entry) → trace_line e ≡ fields e ++ newline
 unfolding fields
@@ -223,7 +223,7 @@ pub line_read : (e : Entry) → IsTraced e → (line rest second third tick thre
 unfolding fields
 line_read e is line rest second third tick thread pc word a0 same ticks on threads further pcs last words a0s =
     let parts = five_read (decimal e.tick) (decimal e.thread) (hex_word e.pc) (hex_word e.word) (hex_word e.a0) line rest second third (same ∙ line_fields e is) on further last
-    (decimal_solid e.tick (omega (arith, is.early))) (decimal_solid e.thread (omega (arith, is.in_range))) (word_solid e.pc) (word_solid e.word) in
+    (decimal_solid e.tick (omega (arith, is.early))) (decimal_solid e.thread (omega (arith, is.step.in_range))) (word_solid e.pc) (word_solid e.word) in
     let one : tick ≡ decimal e.tick = ticks ∙ parts.0 in
     let two : thread ≡ decimal e.thread = threads ∙ parts.1 in
     let three : pc ≡ hex_word e.pc = pcs ∙ parts.2 in

@@ -1,5 +1,5 @@
 -- A watched run goes on.
-use Rattle.std.proofs.Common.{◌≡◌, ◌<◌, ◌≤◌, ℕ, List, [], ◌∷◌, ◌++◌, refl, subst, arith}
+use Rattle.std.proofs.Common.{◌<◌, ◌≤◌, ℕ, List, [], ◌∷◌, ◌++◌, refl, subst, arith}
 use Rattle.ptk_main_answers.specs.Watching.{HasWatched}
 
 -- one more tick is seen
@@ -9,10 +9,3 @@ watched_on {V} sees end from to tick [] before between after so later within loo
     (after, omega (arith, so.0, later), within, subst (λ (v : V). sees v tick end after) so.1 look, (refl, refl))
 watched_on {V} sees end from to tick (first ∷ ticks) before between after so later within look =
     (so.0, so.1, so.2, so.3, watched_on sees end first to tick ticks so.0 between after so.4 later within look)
-
--- a run from the first tick to its end
-pub watched_whole : {V : Type 0} (sees : V → ℕ → ℕ → V → Type 0) (end first last : ℕ) (before after : V) → first ≡ 0 → last ≡ end → (ticks : List ℕ) × HasWatched sees end first last ticks before after
-    → (ticks : List ℕ) × HasWatched sees end 0 end ticks before after
-watched_whole sees end first last before after begun ends seen =
-    subst (λ (n : ℕ). (ticks : List ℕ) × HasWatched sees end n end ticks before after) begun
-    (subst (λ (n : ℕ). (ticks : List ℕ) × HasWatched sees end first n ticks before after) ends seen)

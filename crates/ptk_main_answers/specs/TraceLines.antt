@@ -14,14 +14,18 @@ use Rattle.ptk_main_answers.specs.declared.entries.TheConstants.{BLANK}
 unfoldable pub step_line : Entry → List ℕ
 step_line e = without_ending (trace_line e)
 
--- a step that a trace may have: it begins before the last tick, a thread has made it, and its pc, its word and its a0 are words (own)
-pub record IsTraced (e : Entry) : Type 0 where
-  pub early : e.tick < LAST_TICK
+-- the numbers of a step: of a thread that made it, and its pc, its word and its a0, which are words (own)
+pub record IsStep (e : Entry) : Type 0 where
   pub positive : 0 < e.thread
   pub in_range : e.thread ≤ THREAD_LIMIT
   pub pc_fits : e.pc < 2 ^ 32
   pub word_fits : e.word < 2 ^ 32
   pub a0_fits : e.a0 < 2 ^ 32
+
+-- a step that a trace may have: one that begins before the last tick (own)
+pub record IsTraced (e : Entry) : Type 0 where
+  pub early : e.tick < LAST_TICK
+  pub step : IsStep e
 
 -- ---- a line as a step
 

@@ -27,8 +27,8 @@
 //!   definition's words of a step (`step_words`): those of its pc and word, and behind an ECALL the call by the state
 //!   before the step and the reply by the state behind it. A line that is a step's is read as that step (`entry_in`:
 //!   `step_line`). So `decoded_trace_with` and `decoded_answer` write the definition's words of the steps of the trace
-//!   (`words`: `worded_text`), where each is one that a trace may have (`IsTraced`); that a run has no others is not
-//!   proved. An unknown name is refused as by `trace_with`.
+//!   (`words`: `worded_text`), where each has the numbers of a step, a thread's and words (`IsStep`): that a trace has
+//!   no others is not proved. An unknown name is refused as by `trace_with`.
 //!
 //! Each line of a trace in words is as the trace has it; behind two blanks and `#` are the symbol that is nearest to
 //! the step's pc and its instruction as the disassembler spells it; behind an ECALL the call's POSIX name and the name

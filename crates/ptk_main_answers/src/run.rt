@@ -71,8 +71,8 @@ pub fn run_answer<'a, V: Watch, W: Write>(
         IfSome question.now.expected (λ bytes. bytes.now ≡ report_in question.now.format (world_at config.now files.now question.now.ticks))) }
     ensures passed { OnOk result (question.now.until_halted ≡ false →
         IsNoFailure question.now.fail_on (world_at config.now files.now question.now.ticks)) }
-    ensures watched { OnOk result (question.now.until_halted ≡ false →
-        (ticks : List ℕ) × HasWatched V.sees question.now.ticks 0 question.now.ticks ticks watch.old watch.new) }
+    ensures watched { OnOk result ((n : ℕ) × IsEnd question.now.until_halted question.now.ticks (world_at config.now files.now n)
+        × (ticks : List ℕ) × HasWatched V.sees question.now.ticks 0 n ticks watch.old watch.new) }
     ensures ended { OnOk result ((n : ℕ) × IsPassed question.now (world_at config.now files.now n) (W.contents out.old) (W.contents out.new)) }
     ensures refused { let refusal = missing_image config.now files.now in
         MatchResult result (λ _. refusal ≡ None) (λ fault. (refusal ≡ None) ⊎ IsFaultOf refusal refusal fault) }

@@ -1,9 +1,8 @@
-use Rattle.std.proofs.Common.{ap, inr, subst}
+use Rattle.std.proofs.Common.{inr, subst}
 use Rattle.ptk_main_runs.specs.World.{World}
 use Rattle.ptk_main_answers.specs.Expectations.{IsNoFailure}
 use Rattle.ptk_main_answers.proofs.Refusals.{none_missing}
-use Rattle.ptk_main_answers.proofs.Runs.{at_last, failed_on_at, passed_at, passed_on, unlike_at}
-use Rattle.ptk_main_answers.proofs.Watching.{watched_whole}
+use Rattle.ptk_main_answers.proofs.Runs.{at_last, failed_on_at, passed_at, passed_on, unlike_at, watched_at}
 use Rattle.ptk_main_answers.proofs.run.run_answer.Goals as goal
 
 pub returns-clause-passed : goal.returns-clause-passed
@@ -13,12 +12,9 @@ returns-clause-passed g c last =
     c.in-None.ensures
 
 pub returns-clause-watched : goal.returns-clause-watched
-returns-clause-watched g c last =
-    watched_whole g.V.Watch.sees c.args.question.now.ticks c.in-Ok.system.tick c.run_watched.new.system.tick c.args.watch.now c.run_watched.new.watch
-    (ap (λ (w : World). w.tick) c.in-Ok.ensures.booted)
-    (ap (λ (w : World). w.tick)
-    (at_last c.args.question.now c.args.config.now c.args.files.now c.in-Ok.system c.run_watched.new.system c.in-Ok.ensures.booted c.run_watched.ensures.run c.run_watched.ensures.end last))
-    c.run_watched.ensures.watched
+returns-clause-watched g c =
+    watched_at g.V.Watch.sees c.args.question.now c.args.config.now c.args.files.now c.in-Ok.system c.run_watched.new.system c.args.watch.now c.run_watched.new.watch
+    c.in-Ok.ensures.booted c.run_watched.ensures.run c.run_watched.ensures.end c.run_watched.ensures.watched
 
 pub returns-clause-ended : goal.returns-clause-ended
 returns-clause-ended g c =
