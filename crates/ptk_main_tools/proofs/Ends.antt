@@ -1,6 +1,6 @@
 -- The status of an outcome, and that of a command by what came of its text.
-use Rattle.std.proofs.Common.{◌≡◌, ℕ, List, Result, Ok, Err, sym, subst, refl, inl, inr}
-use Rattle.std.specs.Prelude.{IfErr, IsErr, IsOk, OnOk, Option, None, []}
+use Rattle.std.proofs.Common.{◌≡◌, ◌≢◌, ℕ, Bool, List, Result, Ok, Err, sym, subst, ap, refl, inl, inr}
+use Rattle.std.specs.Prelude.{IfErr, IsErr, IsOk, OnOk, Option}
 use Rattle.ptk_words.specs.Image.{ImageParts}
 use Rattle.ptk_asm_language.specs.Source as definition
 use Rattle.ptk_main_line.specs.declared.requests.AsmOptions.{AsmOptions}
@@ -8,10 +8,14 @@ use Rattle.ptk_main_line.specs.declared.requests.DisasmOptions.{DisasmOptions}
 use Rattle.ptk_main_faults.specs.Lines.{status_of}
 use Rattle.ptk_main_faults.specs.Statuses.{status_number}
 use Rattle.ptk_main_faults.specs.declared.fault.Fault.{Fault}
+use Rattle.ptk_main_faults.specs.declared.fault.Fault.TheVariants.{WriteFailed}
 use Rattle.ptk_main_faults.specs.declared.status.ExitStatus.TheVariants.{Done}
-use Rattle.ptk_main_tools.specs.Ends.{IsEndStatus}
-use Rattle.ptk_main_tools.specs.Refusals.{IsDisasmFault, IsImageTextFault}
-use Rattle.ptk_main_tools.specs.Written.{IsAssembled, IsDisassembled, WritesFiles, WritesSource}
+use Rattle.ptk_main_tools.specs.Ends.{IsAsmEnd, IsAsmOf, IsAsmOver, IsAsmStatus, IsDisasmEnd, IsEndStatus, IsReadStatus, IsTextStatus}
+use Rattle.ptk_main_tools.specs.Refusals.{IsDisasmFault, IsDisasmRefusal, IsImageTextFault}
+use Rattle.ptk_main_tools.specs.Sources.{AreMixed, IsAsmFault}
+use Rattle.ptk_main_tools.specs.Usage.{IsUsageStatus}
+use Rattle.ptk_main_tools.specs.Written.{Disassembles, IsAssembled, IsDisassembled, WritesFiles}
+use Rattle.ptk_main_tools.proofs.ReadFaults.{named_unread, text_unread, unnamed}
 
 -- ---- the status of an outcome
 
@@ -42,28 +46,51 @@ assembled writes options source image (Ok u) old new is written = (image, is, wr
 assembled writes options source image (Err fault) old new is written = tt
 
 -- the status of a text is that of a source
-pub asm_ended : {F : Type 0} (writes : F → List ℕ → List ℕ → F → Type 0) (options : AsmOptions) (source : List ℕ) (Q : Fault → Type 0) (old new : F) (status : ℕ)
+asm_ended : {F : Type 0} (writes : F → List ℕ → List ℕ → F → Type 0) (options : AsmOptions) (source : List ℕ) (Q : Fault → Type 0) (old new : F) (status : ℕ)
     → IsEndStatus (IsAssembled writes options source old new) Q status → IsEndStatus (IsOk (definition.source source)) Q status
 asm_ended writes options source Q old new status is =
     ended_weaker (IsAssembled writes options source old new) (IsOk (definition.source source)) Q status (λ written. image_there (definition.source source) written.0 written.1) is
 
+-- that of a source as it was read is that of some text
+asm_read : {F : Type 0} (reads : List ℕ → Option (List ℕ) → Type 0) (writes : F → List ℕ → List ℕ → F → Type 0) (options : AsmOptions) (old new : F) (status : ℕ)
+    → IsReadStatus reads (new ≡ old) options.source (IsAsmOf writes options old new) status → IsTextStatus (λ _. Unit {0}) options.source IsAsmStatus status
+asm_read reads writes options old new status (inl unread) = inl (unread.0, (text_unread reads options.source unread.0 unread.1.0, tt), unread.2)
+asm_read reads writes options old new status (inr read) = inr (read.0, asm_ended writes options read.0 (IsAsmFault read.0) old new status read.2.end)
+
+pub asm_end : {F : Type 0} (finds : List ℕ → List ℕ → Bool → Type 0) (reads : List ℕ → Option (List ℕ) → Type 0) (writes : F → List ℕ → List ℕ → F → Type 0) (options : AsmOptions) (old new : F) (status : ℕ)
+    → (AreMixed options → IsUsageStatus status) → IsAsmOver finds reads writes options old new status → IsAsmEnd options status
+asm_end finds reads writes options old new status mixed (inl one) = (mixed, inl one.1)
+asm_end finds reads writes options old new status mixed (inr apart) = (mixed, inr (asm_read reads writes options old new status apart.1))
+
 -- ---- `disasm`
 
 -- the text that was written is one of an image
-pub disassembled_by : {F : Type 0} (writes : F → List ℕ → List ℕ → F → Type 0) (options : DisasmOptions) (bytes names : List ℕ) (before after : F) (old new : Option (List ℕ)) (outcome : Result (Unit {0}) Fault)
-    → (options.symbols ≡ None → names ≡ []) → OnOk outcome (WritesSource writes options bytes names before after old new) → OnOk outcome (IsDisassembled options old new)
-disassembled_by writes options bytes names before after old new (Ok u) unnamed written = record {
-  bytes = bytes;
-  symbols = written.symbols;
-  named = record { bytes = names; unnamed = unnamed; table = written.table };
-  text = written.text;
-  is = written.is;
-  shown = written.shown;
+pub disassembled_by : {F : Type 0} (reads : List ℕ → Option (List ℕ) → Type 0) (writes : F → List ℕ → List ℕ → F → Type 0) (options : DisasmOptions) (before after : F) (old new : Option (List ℕ)) (outcome : Result (Unit {0}) Fault)
+    → OnOk outcome (Disassembles reads writes options before after old new) → OnOk outcome (IsDisassembled options old new)
+disassembled_by reads writes options before after old new (Ok u) done = record {
+  bytes = done.bytes;
+  symbols = done.written.symbols;
+  named = record { bytes = done.names; unnamed = unnamed reads options.symbols done.names done.named; table = done.written.table };
+  text = done.written.text;
+  is = done.written.is;
+  shown = done.written.shown;
 }
-disassembled_by writes options bytes names before after old new (Err fault) unnamed written = tt
+disassembled_by reads writes options before after old new (Err fault) done = tt
 
 -- its fault is one of the request
-pub text_refused : (options : DisasmOptions) (bytes names : List ℕ) (fault : Fault) → IsImageTextFault options bytes names fault → IsDisasmFault options fault
+text_refused : (options : DisasmOptions) (bytes names : List ℕ) (fault : Fault) → IsImageTextFault options bytes names fault → IsDisasmFault options fault
 text_refused options bytes names fault (inl write) = inl write
 text_refused options bytes names fault (inr (inl symbols)) = inr (inr (inl (inr (names, symbols))))
 text_refused options bytes names fault (inr (inr image)) = inr (inr (inr (bytes, image)))
+
+pub disasm_refused : (reads : List ℕ → Option (List ℕ) → Type 0) (options : DisasmOptions) (fault : Fault) → IsDisasmRefusal reads options fault → IsDisasmFault options fault
+disasm_refused reads options fault (inl (inl image)) = inr (inl image.0)
+disasm_refused reads options fault (inl (inr symbols)) = inr (inr (inl (inl (named_unread reads options.symbols fault symbols))))
+disasm_refused reads options fault (inr text) = text_refused options text.0 text.1 fault text.4
+
+-- the status, where a refusal leaves the writer as it was
+pub disasm_ended : {W : Type 0} (contents : W → Option (List ℕ)) (options : DisasmOptions) (outcome : Result (Unit {0}) Fault) (old new : W) (status : ℕ)
+    → OnOk outcome (IsDisassembled options (contents old) (contents new)) → IfErr outcome (IsDisasmFault options) → IfErr outcome (λ fault. fault ≢ WriteFailed → new ≡ old)
+    → OnOk outcome (status ≡ status_number Done) → IfErr outcome (λ fault. status ≡ status_number (status_of fault)) → IsDisasmEnd options (contents old) (contents new) status
+disasm_ended contents options (Ok u) old new status holds refused silent done failed = inl (done, holds)
+disasm_ended contents options (Err fault) old new status holds refused silent done failed = inr (fault, (refused, λ other. ap contents (silent other)), failed)

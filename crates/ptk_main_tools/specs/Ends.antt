@@ -1,5 +1,5 @@
 -- Which status a request ends with, by what came of it and of the file that it reads first.
-use Rattle.std.specs.Prelude.{◌≡◌, ◌⊎◌, ℕ, List, Option, IsOk}
+use Rattle.std.specs.Prelude.{◌≡◌, ◌≢◌, ◌⊎◌, ℕ, Bool, List, Option, Some, IsErr, IsOk}
 use Rattle.std.specs.Borrow.{Bor}
 use Rattle.ptk_asm_language.specs.Source.{source}
 use Rattle.ptk_main_line.specs.declared.requests.AsmOptions.{AsmOptions}
@@ -7,12 +7,13 @@ use Rattle.ptk_main_line.specs.declared.requests.DisasmOptions.{DisasmOptions}
 use Rattle.ptk_main_faults.specs.Lines.{status_of}
 use Rattle.ptk_main_faults.specs.Statuses.{status_number}
 use Rattle.ptk_main_faults.specs.declared.fault.Fault.{Fault}
+use Rattle.ptk_main_faults.specs.declared.fault.Fault.TheVariants.{WriteFailed}
 use Rattle.ptk_main_faults.specs.declared.status.ExitStatus.TheVariants.{Done}
-use Rattle.ptk_main_tools.specs.Reading.{IsTextFault}
+use Rattle.ptk_main_tools.specs.Reading.{IsTextFault, IsUnreadText}
 use Rattle.ptk_main_tools.specs.Refusals.{IsDisasmFault}
-use Rattle.ptk_main_tools.specs.Sources.{AreMixed, IsAsmFault}
+use Rattle.ptk_main_tools.specs.Sources.{AreApart, AreMixed, AreOne, IsAsmFault}
 use Rattle.ptk_main_tools.specs.Usage.{IsUsageStatus}
-use Rattle.ptk_main_tools.specs.Written.{IsDisassembled}
+use Rattle.ptk_main_tools.specs.Written.{IsAssembled, IsDisassembled}
 
 -- ---- the end of a request
 
@@ -30,6 +31,11 @@ IsEndStatus P Q status = ((status ≡ status_number Done) × P) ⊎ IsFaultStatu
 abbrev pub IsTextStatus : (Fault → Type 0) → Bor (List ℕ) → (List ℕ → ℕ → Type 0) → ℕ → Type 0
 IsTextStatus Q name P status = IsFaultStatus (λ fault. IsTextFault name fault × Q fault) status ⊎ ((bytes : List ℕ) × P bytes status)
 
+-- the file of this name is not read as text, and this holds, or it is so with the text that it was read as (own)
+abbrev pub IsReadStatus : (List ℕ → Option (List ℕ) → Type 0) → Type 0 → Bor (List ℕ) → (List ℕ → ℕ → Type 0) → ℕ → Type 0
+IsReadStatus reads Q name P status =
+    IsFaultStatus (λ fault. IsUnreadText reads name fault × Q) status ⊎ ((bytes : List ℕ) × reads name.now (Some bytes) × P bytes status)
+
 -- ---- each command
 
 -- asm, of a text: done only where the text has an image, and else by its fault, or one of writing (own)
@@ -40,6 +46,20 @@ IsAsmStatus bytes status = IsEndStatus (IsOk (source bytes)) (IsAsmFault bytes) 
 abbrev pub IsAsmEnd : AsmOptions → ℕ → Type 0
 IsAsmEnd options status = (AreMixed options → IsUsageStatus status) × (IsUsageStatus status ⊎ IsTextStatus (λ _. Unit {0}) options.source IsAsmStatus status)
 
--- `disasm`: done only where there is a text of an image, and where no file is named only where it is written (own)
+-- `disasm`: done only where there is a text of an image, and where no file is named only where it is written; by a fault other than a failed write nothing is written (own)
 abbrev pub IsDisasmEnd : DisasmOptions → Option (List ℕ) → Option (List ℕ) → ℕ → Type 0
-IsDisasmEnd options old new status = IsEndStatus (IsDisassembled options old new) (IsDisasmFault options) status
+IsDisasmEnd options old new status =
+    IsEndStatus (IsDisassembled options old new) (λ fault. IsDisasmFault options fault × (fault ≢ WriteFailed → new ≡ old)) status
+
+-- ---- asm over any files
+
+-- asm of a text: done only where its image is written, and else by its fault, or one of writing; nothing is written where it is refused (own)
+pub record IsAsmOf {F : Type 0} (writes : F → List ℕ → List ℕ → F → Type 0) (options : AsmOptions) (old new : F) (bytes : List ℕ) (status : ℕ) : Type 0 where
+  pub end : IsEndStatus (IsAssembled writes options bytes old new) (IsAsmFault bytes) status
+  pub silent : IsErr (source bytes) → new ≡ old
+
+-- a usage error where two of the files were found to be one, and nothing is written then; and else by the source as it was read (own)
+abbrev pub IsAsmOver : {F : Type 0} → (List ℕ → List ℕ → Bool → Type 0) → (List ℕ → Option (List ℕ) → Type 0) → (F → List ℕ → List ℕ → F → Type 0) → AsmOptions → F → F → ℕ → Type 0
+IsAsmOver finds reads writes options old new status =
+    (AreOne finds options × IsUsageStatus status × (new ≡ old))
+    ⊎ (AreApart finds options × IsReadStatus reads (new ≡ old) options.source (IsAsmOf writes options old new) status)

@@ -1,5 +1,5 @@
 -- Why a file is not read, and what is read of the images of a configuration.
-use Rattle.std.specs.Prelude.{◌≡◌, ◌⊎◌, ◌++◌, ℕ, if◌then◌else◌, List, [], Option, Some, None, Ok, Err, All, Any, IfSome, bytes_eq, codes, option_copied, unwrap_or}
+use Rattle.std.specs.Prelude.{◌≡◌, ◌⊎◌, ◌++◌, ℕ, if◌then◌else◌, List, [], Option, Some, None, Ok, Err, All, Any, IfSome, IsUtf8, bytes_eq, codes, option_copied, unwrap_or}
 use Rattle.std.specs.Borrow.{Bor}
 use Rattle.std.specs.declared.io.ErrorKind.{ErrorKind}
 use Rattle.std.specs.declared.io.ErrorKind.TheVariants as kind
@@ -72,6 +72,38 @@ IsSymbolsFault name bytes fault = (fault ≡ NoMemory) ⊎ ((line : ℕ) × (tab
 abbrev pub IsSymbolsFileFault : Option (Bor (List ℕ)) → Fault → Type 0
 IsSymbolsFileFault name fault = IsNamedTextFault name fault ⊎ ((bytes : List ℕ) × IsSymbolsFault name bytes fault)
 
+-- ---- a file as it was read; `reads` says that the file of a path was read as these bytes, or is not there
+
+-- the file of this name is not read; where the fault is that it is not there, it was not (own)
+abbrev pub IsUnreadFile : (List ℕ → Option (List ℕ) → Type 0) → Bor (List ℕ) → Fault → Type 0
+IsUnreadFile reads name fault = IsReadFault name fault × (IsMissing fault → reads name.now None)
+
+-- the file of this name was read as bytes that are no text (own)
+abbrev pub IsNoText : (List ℕ → Option (List ℕ) → Type 0) → Bor (List ℕ) → Fault → Type 0
+IsNoText reads name fault = (fault ≡ NotText name) × (bytes : List ℕ) × reads name.now (Some bytes) × (¬ IsUtf8 bytes)
+
+-- the file of this name was read as no text, or is not read (own)
+abbrev pub IsUnreadText : (List ℕ → Option (List ℕ) → Type 0) → Bor (List ℕ) → Fault → Type 0
+IsUnreadText reads name fault = IsNoText reads name fault ⊎ IsUnreadFile reads name fault
+
+-- the file of this name was read as a text that states this configuration (own)
+abbrev pub IsStatedIn : (List ℕ → Option (List ℕ) → Type 0) → List ℕ → Configuration → Type 0
+IsStatedIn reads name config = (bytes : List ℕ) × reads name (Some bytes) × (configuration_in bytes ≡ Ok config)
+
+-- the file of this name is not read as text, or was read as one that states no configuration (own)
+abbrev pub IsUnstatedIn : (List ℕ → Option (List ℕ) → Type 0) → Bor (List ℕ) → Fault → Type 0
+IsUnstatedIn reads name fault = IsUnreadText reads name fault ⊎ ((bytes : List ℕ) × reads name.now (Some bytes) × IsConfigFault bytes fault)
+
+-- the file that is named was read as this text, which is empty where none is named (own)
+abbrev pub IsNamedText : (List ℕ → Option (List ℕ) → Type 0) → Option (Bor (List ℕ)) → List ℕ → Type 0
+IsNamedText reads None bytes = bytes ≡ []
+IsNamedText reads (Some name) bytes = reads name.now (Some bytes)
+
+-- a file is named, and it was read as no text, or is not read (own)
+abbrev pub IsUnreadNamed : (List ℕ → Option (List ℕ) → Type 0) → Option (Bor (List ℕ)) → Fault → Type 0
+IsUnreadNamed reads None fault = ⊥
+IsUnreadNamed reads (Some name) fault = IsUnreadText reads name fault
+
 -- ---- the images of sections
 
 -- memory ran out, or the image is there and can't be read (own)
@@ -90,7 +122,7 @@ IsImageOf sections name = Any (λ (s : Section). s.image ≡ Some name) sections
 abbrev pub AreImagesOf : List Section → List NamedFile → Type 0
 AreImagesOf sections files = (name : List ℕ) → ¬ IsImageOf sections name → content_of files name ≡ None
 
--- ---- the images as they were read; `reads` says that the file of a path was read as these bytes, or is not there
+-- ---- the images as they were read
 
 -- the path of the image of a name: behind the folder and a slash, where a folder is given (own)
 abbrev pub image_path : Option (Bor (List ℕ)) → List ℕ → List ℕ

@@ -1,5 +1,5 @@
 -- Why a file has no disassembly.
-use Rattle.std.specs.Prelude.{◌≡◌, ℕ, List, Result, Ok, Err, ◌⊎◌}
+use Rattle.std.specs.Prelude.{◌≡◌, ℕ, List, Option, Some, Result, Ok, Err, ◌⊎◌}
 use Rattle.std.specs.Borrow.{Bor}
 use Rattle.ptk_words.specs.Image.{ImageParts, image_of}
 use Rattle.ptk_words.specs.declared.faults.ImageFault.{ImageFault}
@@ -10,7 +10,7 @@ use Rattle.ptk_main_line.specs.declared.requests.DisasmOptions.{DisasmOptions}
 use Rattle.ptk_main_faults.specs.Lines.{image_fault}
 use Rattle.ptk_main_faults.specs.declared.fault.Fault.{Fault}
 use Rattle.ptk_main_faults.specs.declared.fault.Fault.TheVariants.{TooLong, WriteFailed, NoMemory}
-use Rattle.ptk_main_tools.specs.Reading.{IsReadFault, IsSymbolsFault, IsSymbolsFileFault}
+use Rattle.ptk_main_tools.specs.Reading.{IsNamedText, IsReadFault, IsSymbolsFault, IsSymbolsFileFault, IsUnreadFile, IsUnreadNamed}
 
 -- the fault of a file of this name with this outcome of its bytes: of what is no image its refusal; of an image that a section is longer than a source may have it, or that memory ran out (own)
 abbrev pub HasNoSource : Bor (List ℕ) → Result ImageParts ImageFault → Fault → Type 0
@@ -24,3 +24,9 @@ IsImageTextFault options bytes names fault = (fault ≡ WriteFailed) ⊎ (IsSymb
 -- the text can't be written; the image or the symbols are not read; or there are bytes for which it is the fault of what has no source (own)
 abbrev pub IsDisasmFault : DisasmOptions → Fault → Type 0
 IsDisasmFault options fault = (fault ≡ WriteFailed) ⊎ (IsReadFault options.image fault ⊎ (IsSymbolsFileFault options.symbols fault ⊎ ((bytes : List ℕ) × HasNoSource options.image (image_of bytes) fault)))
+
+-- the image or the symbols are not read; or what they were read as has no text, or that can't be written (own)
+abbrev pub IsDisasmRefusal : (List ℕ → Option (List ℕ) → Type 0) → DisasmOptions → Fault → Type 0
+IsDisasmRefusal reads options fault =
+    (IsUnreadFile reads options.image fault ⊎ IsUnreadNamed reads options.symbols fault)
+    ⊎ ((bytes : List ℕ) × (names : List ℕ) × reads options.image.now (Some bytes) × IsNamedText reads options.symbols names × IsImageTextFault options bytes names fault)

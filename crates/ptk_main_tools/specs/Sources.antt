@@ -1,5 +1,5 @@
 -- The files of a source, where it is refused and what is there, and the faults of what is written of it.
-use Rattle.std.specs.Prelude.{◌≡◌, ◌⊎◌, ℕ, ◌+◌, Bool, false, not, ◌&&◌, List, [], ◌∷◌, ◌++◌, length, take, slice_range, ◌==◌, nat_le, nat_lt, if◌then◌else◌, Err, IsSomeAnd, codes, decimal}
+use Rattle.std.specs.Prelude.{◌≡◌, ◌⊎◌, ℕ, ◌+◌, Bool, true, false, not, ◌&&◌, List, [], ◌∷◌, ◌++◌, length, take, slice_range, ◌==◌, nat_le, nat_lt, if◌then◌else◌, Err, IfSome, IsSomeAnd, codes, decimal}
 use Rattle.std.specs.List.{concat, list_all, suffix_len}
 use Rattle.ptk_asm.specs.declared.fault.AsmFault.{AsmFault}
 use Rattle.ptk_asm_language.specs.Source as definition
@@ -13,9 +13,22 @@ use Rattle.ptk_main_tools.specs.declared.assembling.TheConstants.{MOST_SHOWN}
 
 -- ---- the files
 
+-- so it is with two of the files (own)
+abbrev pub WithTwo : (List ℕ → List ℕ → Type 0) → AsmOptions → Type 0
+WithTwo P options = P options.source.now options.image.now ⊎ IsSomeAnd options.symbols (λ labels. P options.source.now labels.now ⊎ P options.image.now labels.now)
+
 -- two of the files have the same words (own)
 abbrev pub AreMixed : AsmOptions → Type 0
-AreMixed options = (options.source.now ≡ options.image.now) ⊎ IsSomeAnd options.symbols (λ labels. (options.source.now ≡ labels.now) ⊎ (options.image.now ≡ labels.now))
+AreMixed options = WithTwo (λ first second. first ≡ second) options
+
+-- two of the files were found to be one; `finds` says of two paths that they are one file, or are not (own)
+abbrev pub AreOne : (List ℕ → List ℕ → Bool → Type 0) → AsmOptions → Type 0
+AreOne finds options = WithTwo (λ first second. finds first second true) options
+
+-- no two of the files were found to be one (own)
+abbrev pub AreApart : (List ℕ → List ℕ → Bool → Type 0) → AsmOptions → Type 0
+AreApart finds options =
+    finds options.source.now options.image.now false × IfSome options.symbols (λ labels. finds options.source.now labels.now false × finds options.image.now labels.now false)
 
 -- ---- the place
 

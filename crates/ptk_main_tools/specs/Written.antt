@@ -1,4 +1,4 @@
--- What `asm` and `disasm` write. `writes` is what the writing of a file changes: who writes before it, the file's name, its bytes, and who writes then.
+-- What `asm` and `disasm` write. `writes` is what the writing of a file changes: who writes before it, the file's name, its bytes, and who writes then; `reads` says what the file of a path was read as.
 use Rattle.std.specs.Prelude.{◌≡◌, ℕ, List, Option, Some, None, Ok}
 use Rattle.std.specs.Borrow.{Bor}
 use Rattle.std.specs.Io.KnownBytes.{Appends}
@@ -9,7 +9,7 @@ use Rattle.ptk_symbols.specs.Tables.{table_of}
 use Rattle.ptk_disasm.specs.Disassembly.{disassembled_with, names_of}
 use Rattle.ptk_main_line.specs.declared.requests.AsmOptions.{AsmOptions}
 use Rattle.ptk_main_line.specs.declared.requests.DisasmOptions.{DisasmOptions}
-use Rattle.ptk_main_tools.specs.Reading.{AreSymbolsOf}
+use Rattle.ptk_main_tools.specs.Reading.{AreSymbolsOf, IsNamedText}
 
 -- ---- an image and its labels
 
@@ -51,6 +51,14 @@ pub record WritesSource {F : Type 0} (writes : F → List ℕ → List ℕ → F
   pub is : IsTextOf bytes symbols text
   pub file : WritesText writes options.target text before after
   pub shown : IsShown options.target text old new
+
+-- the image and the symbols are as they were read, and the image's text with them is written into the file that is named, and else to the output (own)
+pub record Disassembles {F : Type 0} (reads : List ℕ → Option (List ℕ) → Type 0) (writes : F → List ℕ → List ℕ → F → Type 0) (options : DisasmOptions) (before after : F) (old new : Option (List ℕ)) : Type 0 where
+  pub bytes : List ℕ
+  pub image : reads options.image.now (Some bytes)
+  pub names : List ℕ
+  pub named : IsNamedText reads options.symbols names
+  pub written : WritesSource writes options bytes names before after old new
 
 -- some bytes are an image, and its text with the symbols of a text is written to the output, where no file is named, and else nothing is (own)
 pub record IsDisassembled (options : DisasmOptions) (old new : Option (List ℕ)) : Type 0 where

@@ -1,6 +1,6 @@
 //! `asm`: the image of a source.
 
-ghost use Rattle.std.specs.Prelude.{◌≡◌, ℕ, ◌+◌, ◌<◌, ◌==◌, if◌then◌else◌, List, IfErr, IfOk, IsErr, IsTrue, OnOk};
+ghost use Rattle.std.specs.Prelude.{◌≡◌, ◌⊎◌, ℕ, ◌+◌, ◌<◌, ◌==◌, if◌then◌else◌, List, true, false, IfErr, IfOk, IsErr, IsTrue, OnOk};
 ghost use Rattle.std.specs.List.{list_all};
 ghost use Rattle.std.specs.Io.KnownBytes.{Appends};
 ghost use Rattle.ptk_words.specs.Image.{image_bytes};
@@ -9,13 +9,13 @@ ghost use Rattle.ptk_asm_language.specs.Source as definition;
 ghost use Rattle.ptk_main_faults.specs.HostFaults.{IsHostFault};
 ghost use Rattle.ptk_main_faults.specs.Lines.{status_of};
 ghost use Rattle.ptk_main_faults.specs.Statuses.{status_number};
-ghost use Rattle.ptk_main_tools.specs.Ends.{IsAsmEnd, IsEndStatus};
-ghost use Rattle.ptk_main_tools.specs.Sources.{AreMixed, IsAsmFault, column_of, explanation_text, is_explained, is_printable, is_shown, piece_of, piece_text, reason_words, refusal_line, refused_text, source_fault, spot_text};
+ghost use Rattle.ptk_main_tools.specs.Ends.{IsAsmEnd, IsAsmOf, IsAsmOver, IsEndStatus, IsReadStatus};
+ghost use Rattle.ptk_main_tools.specs.Sources.{AreApart, AreMixed, AreOne, IsAsmFault, column_of, explanation_text, is_explained, is_printable, is_shown, piece_of, piece_text, reason_words, refusal_line, refused_text, source_fault, spot_text};
 ghost use Rattle.ptk_main_tools.specs.Usage.{IsUsageStatus};
 ghost use Rattle.ptk_main_tools.specs.Written.{IsAssembled, WritesFiles};
 
-use crate::files::{FileWriter, HostFiles};
-use crate::reading::text_in;
+use crate::files::{FileReader, FileWriter, HostFiles};
+use crate::reading::text_by;
 use crate::telling::{end, tell, usage};
 use ptk_asm::{AsmFault, assemble, label_table};
 use ptk_asm_language::FaultKind;
@@ -23,8 +23,8 @@ use ptk_image::{Image, write_image};
 use ptk_main_faults::{Fault, fault_line};
 use ptk_main_line::{AsmOptions, one_file};
 use std::alloc::Global;
+use std::io;
 use std::io::Write;
-use std::{fs, io};
 
 /// The longest piece of a source that is shown.
 const MOST_SHOWN: usize = 32;
@@ -35,13 +35,23 @@ const MOST_SHOWN: usize = 32;
 pub fn asm(rt: &HostRuntime, options: AsmOptions<'_>) -> u8
     ensures { IsAsmEnd options.entry result }
 {
-    if are_mixed(rt, options) {
+    asm_by(rt, options, &HostFiles::of(rt), &mut HostFiles::of(rt))
+}
+
+// Writes the image of a source as this reader has it, and its labels, by this writer.
+fn asm_by<R: FileReader, F: FileWriter>(
+    rt: &HostRuntime,
+    options: AsmOptions<'_>,
+    reader: &R,
+    files: &mut F,
+) -> u8
+    ensures mixed { AreMixed options.entry → IsUsageStatus result }
+    ensures whole { IsAsmOver (R.finds reader.now) (R.reads reader.now) F.writes options.entry files.old files.new result }
+{
+    if are_mixed(reader, options) {
         return refuse_mixed(rt);
     }
-    match text_in(rt, options.source) {
-        Ok(text) => asm_text(rt, text.as_str(), options, &mut HostFiles::of(rt)),
-        Err(fault) => tell(rt, &fault),
-    }
+    asm_source(rt, options, reader, files)
 }
 
 // The status of a command line of which two files are one.
@@ -55,31 +65,44 @@ fn refuse_mixed(rt: &HostRuntime) -> u8
 }
 
 // Whether two of the files are one.
-fn are_mixed(rt: &HostRuntime, options: AsmOptions<'_>) -> bool
-    ensures { AreMixed options.entry → IsTrue result }
+fn are_mixed<R: FileReader>(reader: &R, options: AsmOptions<'_>) -> bool
+    ensures same { AreMixed options.entry → IsTrue result }
+    ensures one { IsTrue result → AreOne (R.finds reader.now) options.entry }
+    ensures apart { result ≡ false → AreApart (R.finds reader.now) options.entry }
 {
-    let (source, image) = (options.source, options.image);
+    if reader.is_one_file(options.source, options.image) {
+        return true;
+    }
     match options.symbols {
-        Some(labels) => {
-            is_one_file(rt, source, image)
-                || is_one_file(rt, source, labels)
-                || is_one_file(rt, image, labels)
-        }
-        None => is_one_file(rt, source, image),
+        Some(labels) => is_one_of(reader, options.source, options.image, labels),
+        None => false,
     }
 }
 
-// Whether two paths are one file: their words are the same, or both are there and lead to one path. Two hard links to
-// one file are not seen.
-fn is_one_file(rt: &HostRuntime, source: &str, image: &str) -> bool
-    ensures { source.now ≡ image.now → IsTrue result }
+// Whether the file of the labels is that of the source or of the image.
+fn is_one_of<R: FileReader>(reader: &R, source: &str, image: &str, labels: &str) -> bool
+    ensures same { (source.now ≡ labels.now) ⊎ (image.now ≡ labels.now) → IsTrue result }
+    ensures one { IsTrue result → R.finds reader.now source.now labels.now true ⊎ R.finds reader.now image.now labels.now true }
+    ensures apart { result ≡ false → R.finds reader.now source.now labels.now false × R.finds reader.now image.now labels.now false }
 {
-    if source == image {
+    if reader.is_one_file(source, labels) {
         return true;
     }
-    match (fs::canonicalize(rt, source), fs::canonicalize(rt, image)) {
-        (Ok(source), Ok(image)) => source.as_path() == image.as_path(),
-        _ => false,
+    reader.is_one_file(image, labels)
+}
+
+// Writes the image of the source as this reader has it, and its labels. Nothing is written where it is refused.
+fn asm_source<R: FileReader, F: FileWriter>(
+    rt: &HostRuntime,
+    options: AsmOptions<'_>,
+    reader: &R,
+    files: &mut F,
+) -> u8
+    ensures { IsReadStatus (R.reads reader.now) (files.new ≡ files.old) options.entry.source (IsAsmOf F.writes options.entry files.old files.new) result }
+{
+    match text_by(reader, options.source) {
+        Ok(text) => asm_text(rt, text.as_str(), options, files),
+        Err(fault) => tell(rt, &fault),
     }
 }
 

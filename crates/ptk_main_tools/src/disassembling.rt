@@ -4,11 +4,11 @@ ghost use Rattle.std.specs.Prelude.{◌≡◌, ◌≢◌, Ok, IfOk, IfErr, OnOk,
 ghost use Rattle.std.specs.Io.KnownBytes.{Appends};
 ghost use Rattle.ptk_words.specs.Image.{ImageParts, image_of};
 ghost use Rattle.ptk_asm_language.specs.Source.{source};
-ghost use Rattle.ptk_main_tools.specs.Refusals.{HasNoSource, IsDisasmFault, IsImageTextFault};
-ghost use Rattle.ptk_main_tools.specs.Written.{IsDisassembled, IsShown, IsTextOf, WritesSource, WritesText};
+ghost use Rattle.ptk_main_tools.specs.Refusals.{HasNoSource, IsDisasmFault, IsDisasmRefusal, IsImageTextFault};
+ghost use Rattle.ptk_main_tools.specs.Written.{Disassembles, IsDisassembled, IsShown, IsTextOf, WritesSource, WritesText};
 
-use crate::files::{FileWriter, HostFiles};
-use crate::reading::{bytes_in, symbols_of, symbols_text_in};
+use crate::files::{FileReader, FileWriter, HostFiles};
+use crate::reading::{symbols_of, symbols_text_by};
 use ptk_disasm::{DisasmFault, disassemble_with};
 use ptk_image::read_image;
 use ptk_main_faults::Fault;
@@ -29,9 +29,24 @@ pub fn disasm<'a, W: Write>(
     ensures silent { IfErr result (λ fault. fault ≢ Fault.WriteFailed → out.new ≡ out.old) }
     ensures refused { IfErr result (IsDisasmFault options.entry) }
 {
-    let bytes = bytes_in(rt, options.image)?;
-    let names = symbols_text_in(rt, options.symbols)?;
     let files = &mut HostFiles::of(rt);
+    disasm_by(rt, options, &HostFiles::of(rt), files, out)
+}
+
+// Writes the text of the image with the names of the symbols, as this reader has them, by this writer or to `out`.
+fn disasm_by<'a, R: FileReader, F: FileWriter, W: Write>(
+    rt: &HostRuntime,
+    options: DisasmOptions<'a>,
+    reader: &R,
+    files: &mut F,
+    out: &mut W,
+) -> Result<(), Fault<'a>>
+    ensures done { OnOk result (Disassembles (R.reads reader.now) F.writes options.entry files.old files.new (W.contents out.old) (W.contents out.new)) }
+    ensures silent { IfErr result (λ fault. fault ≢ Fault.WriteFailed → (files.new ≡ files.old) × (out.new ≡ out.old)) }
+    ensures refused { IfErr result (IsDisasmRefusal (R.reads reader.now) options.entry) }
+{
+    let bytes = reader.read_file(options.image)?;
+    let names = symbols_text_by(reader, rt.alloc(), options.symbols)?;
     put_source(rt, options, bytes.as_slice(), names.as_str(), files, out)
 }
 

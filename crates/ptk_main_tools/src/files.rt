@@ -1,6 +1,6 @@
 //! The files of the host.
 
-ghost use Rattle.std.specs.Prelude.{◌≡◌, ℕ, List, Option, None, Some, IfErr, IfOk, OnOk};
+ghost use Rattle.std.specs.Prelude.{◌≡◌, ℕ, Bool, true, false, List, Option, None, Some, IfErr, IfOk, IsTrue, OnOk};
 ghost use Rattle.ptk_main_tools.specs.Reading.{IsMissing, IsReadFault};
 
 use crate::reading::bytes_in;
@@ -12,11 +12,20 @@ pub(crate) trait FileReader {
     /// The file of a path was read as these bytes, or is not there. The default says nothing.
     ghost reads: { Self → List ℕ → Option (List ℕ) → Type 0 } = { λ _ _ _. Unit {0} };
 
+    /// Two paths were found to be one file, or not to be. The default says nothing.
+    ghost finds: { Self → List ℕ → List ℕ → Bool → Type 0 } = { λ _ _ _ _. Unit {0} };
+
     /// The bytes of the file of this path. A fault where it is not there, can't be read, or memory ran out.
     fn read_file<'a>(&self, path: &'a str) -> Result<Vec<u8>, Fault<'a>>
         ensures read { IfOk result (λ bytes. reads self.now path.now (Some bytes.items)) }
         ensures missing { IfErr result (λ fault. IsMissing fault → reads self.now path.now None) }
         ensures unread { IfErr result (IsReadFault path.entry) };
+
+    /// Whether two paths are one file; where their words are the same they are.
+    fn is_one_file(&self, first: &str, second: &str) -> bool
+        ensures same { first.now ≡ second.now → IsTrue result }
+        ensures one { IsTrue result → finds self.now first.now second.now true }
+        ensures apart { result ≡ false → finds self.now first.now second.now false };
 }
 
 /// Who writes files.
@@ -47,6 +56,21 @@ impl<'r> HostFiles<'r> {
 impl FileReader for HostFiles<'_> {
     fn read_file<'a>(&self, path: &'a str) -> Result<Vec<u8>, Fault<'a>> {
         bytes_in(self.rt, path)
+    }
+
+    // Paths with other words are one file where both are there and lead to one path. Two hard links to one file are not
+    // seen.
+    fn is_one_file(&self, first: &str, second: &str) -> bool {
+        if first == second {
+            return true;
+        }
+        match (
+            fs::canonicalize(self.rt, first),
+            fs::canonicalize(self.rt, second),
+        ) {
+            (Ok(first), Ok(second)) => first.as_path() == second.as_path(),
+            _ => false,
+        }
     }
 }
 

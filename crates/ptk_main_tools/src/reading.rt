@@ -4,7 +4,7 @@ ghost use Rattle.std.specs.Prelude.{◌≡◌, ◌≢◌, ℕ, List, [], None, S
 ghost use Rattle.ptk_image.specs.NamedFiles.{content_of};
 ghost use Rattle.ptk_symbols.specs.Tables.{table_of};
 ghost use Rattle.ptk_config.specs.Configuration.{configuration_in};
-ghost use Rattle.ptk_main_tools.specs.Reading.{AreAsRead, AreImagesOf, AreThere, IsConfigFault, IsConfigFileFault, IsImageAdded, IsImageFault, IsImagesFault, IsNamedTextFault, IsReadFault, IsStated, IsSymbolsFault, IsTextFault, IsUnreadFault, image_path, read_fault};
+ghost use Rattle.ptk_main_tools.specs.Reading.{AreAsRead, AreImagesOf, AreThere, IsConfigFault, IsConfigFileFault, IsImageAdded, IsImageFault, IsImagesFault, IsNamedText, IsNamedTextFault, IsReadFault, IsStated, IsStatedIn, IsSymbolsFault, IsTextFault, IsUnreadFault, IsUnreadNamed, IsUnreadText, IsUnstatedIn, image_path, read_fault};
 
 use crate::files::{FileReader, HostFiles};
 use ptk_config::{Config, Section, read_config};
@@ -40,8 +40,18 @@ fn read_fault<'a>(name: &'a str, kind: io::ErrorKind) -> Fault<'a>
 pub fn text_in<'a>(rt: &HostRuntime, name: &'a str) -> Result<String, Fault<'a>>
     ensures { IfErr result (IsTextFault name.entry) }
 {
-    let bytes = bytes_in(rt, name)?;
-    text_from(name, bytes)
+    text_by(&HostFiles::of(rt), name)
+}
+
+/// The text of the file of this name as this reader has it. A fault where the file can't be read, or is no text.
+pub(crate) fn text_by<'a, R: FileReader>(reader: &R, name: &'a str) -> Result<String, Fault<'a>>
+    ensures read { IfOk result (λ text. R.reads reader.now name.now (Some (string_bytes text))) }
+    ensures unread { IfErr result (IsUnreadText (R.reads reader.now) name.entry) }
+{
+    match reader.read_file(name) {
+        Ok(bytes) => text_from(name, bytes),
+        Err(fault) => Err(fault),
+    }
 }
 
 // The text that the bytes of the file of this name are. A fault where they are none.
@@ -61,7 +71,19 @@ pub fn config_in<'a>(rt: &HostRuntime, name: &'a str) -> Result<Config, Fault<'a
     ensures stated { IfOk result IsStated }
     ensures unread { IfErr result (IsConfigFileFault name.entry) }
 {
-    let text = text_in(rt, name)?;
+    config_by(rt, &HostFiles::of(rt), name)
+}
+
+// The configuration in the file of this name as this reader has it.
+fn config_by<'a, R: FileReader>(
+    rt: &HostRuntime,
+    reader: &R,
+    name: &'a str,
+) -> Result<Config, Fault<'a>>
+    ensures stated { IfOk result (IsStatedIn (R.reads reader.now) name.now) }
+    ensures unread { IfErr result (IsUnstatedIn (R.reads reader.now) name.entry) }
+{
+    let text = text_by(reader, name)?;
     config_of(rt, text.as_str())
 }
 
@@ -81,9 +103,21 @@ pub fn symbols_text_in<'a>(rt: &HostRuntime, name: Option<&'a str>) -> Result<St
     ensures none { IfOk result (λ text. name.entry ≡ None → string_bytes text ≡ []) }
     ensures unread { IfErr result (IsNamedTextFault name.entry) }
 {
+    symbols_text_by(&HostFiles::of(rt), rt.alloc(), name)
+}
+
+/// The text of the file of symbols as this reader has it, the empty one where no file is named.
+pub(crate) fn symbols_text_by<'a, R: FileReader>(
+    reader: &R,
+    alloc: Global,
+    name: Option<&'a str>,
+) -> Result<String, Fault<'a>>
+    ensures read { IfOk result (λ text. IsNamedText (R.reads reader.now) name.entry (string_bytes text)) }
+    ensures unread { IfErr result (IsUnreadNamed (R.reads reader.now) name.entry) }
+{
     match name {
-        Some(name) => text_in(rt, name),
-        None => Ok(String::new(rt.alloc())),
+        Some(name) => text_by(reader, name),
+        None => Ok(String::new(alloc)),
     }
 }
 
