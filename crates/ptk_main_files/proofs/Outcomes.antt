@@ -1,5 +1,5 @@
 -- What follows of an outcome with the images that were read.
-pub use Rattle.ptk_main_tools.proofs.Ends.{ended}
+pub use Rattle.ptk_main_tools.proofs.Ends.{disasm_ended, ended}
 use Rattle.std.proofs.Common.{◌≡◌, ◌≢◌, ◌∙◌, ℕ, List, [], Option, None, Result, Ok, Err, ◌⊎◌, sym, ap, refl, subst, inl, inr}
 use Rattle.std.specs.Prelude.{◌↔◌, Bool, true, IfErr, IfOk, IsOkAnd, IsSomeAnd, MatchResult, OnOk, Some, is_some}
 use Rattle.std.specs.Borrow.{Bor}
@@ -35,7 +35,7 @@ use Rattle.ptk_impact_answers.specs.Refusals.{refusal}
 use Rattle.ptk_impact_answers.specs.Renaming.{renames_of}
 use Rattle.ptk_impact_answers.specs.SameRuns.{AreSameRuns}
 use Rattle.ptk_impact_answers.specs.declared.release.Release.{Release}
-use Rattle.ptk_impact_answers.specs.declared.tally.Tally.{Tally}
+use Rattle.ptk_impact_answers.specs.Tally.{Tally}
 use Rattle.ptk_main_files.specs.Outcomes.{IsCheckRefusal, IsComparison, IsCountFault, IsMissingFault, IsRefused, IsRunFault, IsRunFaultWith, IsRunOf, IsSilent, IsSound, IsTraceFault, IsTraceOf, IsUnexpected, IsUnsaid, PutsComparison, PutsDecoded, PutsExplained, PutsRefusal, PutsSound, PutsTrace, WithImages, WithReleases, check_refusal, partition_refusal, question_of, run_question}
 use Rattle.ptk_main_files.specs.Statuses.{IsCheckStatus, IsEndStatus, IsImpactStatus, IsTraceStatus}
 use Rattle.ptk_main_files.specs.Traces.{as_traced, filter_for}
@@ -196,7 +196,7 @@ unsound_by explain bytes config files (Err fault) old said new explained is sile
 
 -- the status of a text that is refused
 pub check_refused : (options : CheckOptions) (bytes : List ℕ) (fault said : Fault) (status : ℕ) (old new : Option (List ℕ)) → IsConfigFault bytes fault
-    → ((said ≡ fault) × PutsRefusal options.format options.explain (line_of said) bytes [] old new) ⊎ IsUnsaid said → status ≡ status_number (status_of said) → IsCheckStatus options old new bytes status
+    → ((said ≡ fault) × PutsRefusal options.format options.explain (line_of said) bytes [] old new) ⊎ IsUnsaid options.format bytes [] said → status ≡ status_number (status_of said) → IsCheckStatus options old new bytes status
 check_refused options bytes fault said status old new refused (inl same) is = inr (inl (said, (subst (IsConfigFault bytes) (sym same.0) refused, same.1), is))
 check_refused options bytes fault said status old new refused (inr unsaid) is = inl (said, unsaid, is)
 

@@ -1,5 +1,5 @@
 -- What comes of a request over a configuration and the images that were read of it.
-use Rattle.std.specs.Prelude.{◌≡◌, ◌≢◌, ◌⊎◌, ◌↔◌, ◌++◌, ℕ, Bool, true, false, List, [], Option, Some, None, IsOkAnd, codes, is_some}
+use Rattle.std.specs.Prelude.{◌≡◌, ◌≢◌, ◌⊎◌, ◌↔◌, ◌++◌, ℕ, Bool, true, false, List, [], Option, Some, None, IsOkAnd, IsUtf8, codes, is_some}
 use Rattle.std.specs.Option.{option_or}
 use Rattle.std.specs.Borrow.{Bor}
 use Rattle.std.specs.Io.KnownBytes.{Appends}
@@ -37,7 +37,7 @@ use Rattle.ptk_impact_answers.specs.SameRuns.{AreSameRuns}
 use Rattle.ptk_impact_answers.specs.Written.{PutsAnswer, PutsLines}
 use Rattle.ptk_impact_answers.specs.declared.answer.Question.{Question}
 use Rattle.ptk_impact_answers.specs.declared.release.Release.{Release}
-use Rattle.ptk_impact_answers.specs.declared.tally.Tally.{Tally}
+use Rattle.ptk_impact_answers.specs.Tally.{Tally}
 use Rattle.ptk_main_files.specs.Traces.{filter_for}
 
 -- ---- the images that were read
@@ -62,14 +62,6 @@ IsSilent fault old new = ¬ IsHostFault fault → new ≡ old
 abbrev pub check_refusal : Configuration → List NamedFile → Option Fault
 check_refusal config files = option_or (missing_image config files) (refused_image config files)
 
--- the explanation of a text is no text (own)
-abbrev pub IsNoExplanation : Fault → Type 0
-IsNoExplanation fault = told fault ≡ NotText (text (codes "the explanation"))
-
--- what is asked for beside the answer of a check is not written (own)
-abbrev pub IsUnsaid : Fault → Type 0
-IsUnsaid fault = IsNoExplanation fault ⊎ IsHostFault fault
-
 -- the explanation of a text with these files is written (own)
 abbrev pub PutsExplanation : List ℕ → List NamedFile → Option (List ℕ) → Option (List ℕ) → Type 0
 PutsExplanation bytes files old new = IsExplained files bytes (refusal_of (text_walk bytes)) old new
@@ -84,12 +76,22 @@ abbrev pub PutsCheck : Bool → List ℕ → List NamedFile → Option (List ℕ
 PutsCheck explain bytes files old new = (said : Option (List ℕ)) × PutsExplained explain bytes files old said × Appends said new ok_line
 
 -- the words are the explanation of a text with these files (own)
-abbrev pub IsExplanation : List ℕ → List NamedFile → List ℕ → Type 0
-IsExplanation bytes files words = PutsExplanation bytes files (Some []) (Some words)
+abbrev pub IsTextExplanation : List ℕ → List NamedFile → List ℕ → Type 0
+IsTextExplanation bytes files words = PutsExplanation bytes files (Some []) (Some words)
+
+-- in this form the explanation of a text with these files has to be text itself, and it is none (own)
+abbrev pub IsNoExplanation : Format → List ℕ → List NamedFile → Fault → Type 0
+IsNoExplanation form.Text bytes files fault = ⊥
+IsNoExplanation form.Json bytes files fault =
+    (told fault ≡ NotText (text (codes "the explanation"))) × ((words : List ℕ) × IsTextExplanation bytes files words × (¬ IsUtf8 words))
+
+-- what is asked for beside the answer of a check of a text with these files is not written in this form (own)
+abbrev pub IsUnsaid : Format → List ℕ → List NamedFile → Fault → Type 0
+IsUnsaid format bytes files fault = IsNoExplanation format bytes files fault ⊎ IsHostFault fault
 
 -- the JSON object of a check with this line of a fault is written, with the explanation in it, and a newline (own)
 abbrev pub PutsObject : Option (List ℕ) → List ℕ → List NamedFile → Option (List ℕ) → Option (List ℕ) → Type 0
-PutsObject line bytes files old new = (words : List ℕ) × IsExplanation bytes files words × Appends old new (check_text line words ++ newline)
+PutsObject line bytes files old new = (words : List ℕ) × IsTextExplanation bytes files words × Appends old new (check_text line words ++ newline)
 
 -- the line of a fault is written, and behind it on request why the text is refused; out of memory says nothing of the text (own)
 pub record PutsRefused (explain : Bool) (fault : Fault) (bytes : List ℕ) (old new : Option (List ℕ)) : Type 0 where
@@ -123,9 +125,10 @@ abbrev pub IsCheckFault : Format → Bool → List ℕ → Configuration → Opt
 IsCheckFault format explain bytes config old new fault =
     IsHostFault fault ⊎ ((IsImagesFault config.sections fault × (new ≡ old)) ⊎ WithImages config.sections (IsCheckRefusal format explain bytes config old new fault))
 
--- the explanation is no text, or it is the fault of a check (own)
+-- in this form the explanation is no text, or it is the fault of a check (own)
 abbrev pub IsFormFault : Format → Bool → List ℕ → Configuration → Option (List ℕ) → Option (List ℕ) → Fault → Type 0
-IsFormFault format explain bytes config old new fault = IsNoExplanation fault ⊎ IsCheckFault format explain bytes config old new fault
+IsFormFault format explain bytes config old new fault =
+    WithImages config.sections (λ files. IsNoExplanation format bytes files fault) ⊎ IsCheckFault format explain bytes config old new fault
 
 -- ---- a run
 

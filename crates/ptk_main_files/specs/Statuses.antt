@@ -46,7 +46,7 @@ IsTraceStatus options old new config status =
 abbrev pub IsCheckStatus : CheckOptions → Option (List ℕ) → Option (List ℕ) → List ℕ → ℕ → Type 0
 IsCheckStatus options old new bytes status =
     let format = options.format in let explain = options.explain in
-    IsFaultStatus IsUnsaid status
+    IsFaultStatus (IsUnsaid format bytes []) status
     ⊎ IsStatedStatus (λ fault. PutsRefusal format explain (line_of fault) bytes [] old new)
     (λ config. IsEndStatus (IsSound format explain bytes config old new) (IsFormFault format explain bytes config old new)) bytes status
 

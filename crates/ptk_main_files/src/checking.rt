@@ -5,7 +5,7 @@ ghost use Rattle.ptk_main_faults.specs.HostFaults.{IsHostFault};
 ghost use Rattle.ptk_main_faults.specs.Lines.{line_of};
 ghost use Rattle.ptk_main_faults.specs.declared.fault.Fault.TheVariants.{NoMemory};
 ghost use Rattle.ptk_main_answers.specs.Refusals.{IsFaultOf, missing_image};
-ghost use Rattle.ptk_main_files.specs.Outcomes.{IsCheckFault, IsCheckRefusal, IsExplanation, IsFormFault, IsSound, IsUnsaid, PutsCheck, PutsExplained, PutsExplanation, PutsObject, PutsRefusal, check_refusal};
+ghost use Rattle.ptk_main_files.specs.Outcomes.{IsCheckFault, IsCheckRefusal, IsFormFault, IsSound, IsTextExplanation, IsUnsaid, PutsCheck, PutsExplained, PutsExplanation, PutsObject, PutsRefusal, check_refusal};
 ghost use Rattle.ptk_main_files.specs.Statuses.{IsCheckEnd, IsCheckStatus};
 
 use crate::explaining::{put_explained, put_on_request};
@@ -62,7 +62,7 @@ fn refusal_in_form<W: Write>(
     options: CheckOptions<'_>,
     out: &mut W,
 ) -> Fault<'static>
-    ensures told { ((result ≡ fault.entry) × PutsRefusal options.entry.format options.entry.explain (line_of result) text.now [] (W.contents out.old) (W.contents out.new)) ⊎ IsUnsaid result }
+    ensures told { ((result ≡ fault.entry) × PutsRefusal options.entry.format options.entry.explain (line_of result) text.now [] (W.contents out.old) (W.contents out.new)) ⊎ IsUnsaid options.entry.format text.now [] result }
     ensures memory { fault.entry ≡ NoMemory → result ≡ NoMemory }
 {
     match options.format {
@@ -147,7 +147,7 @@ fn put_object<'a, W: Write>(
 ) -> Result<(), Fault<'a>>
     ensures written { OnOk result (PutsObject None text.now files.now (W.contents out.old) (W.contents out.new)) }
     ensures sound { OnOk result (check_refusal config.now files.now ≡ None) }
-    ensures failed { IfErr result (λ fault. IsUnsaid fault ⊎ (PutsObject (Some (line_of fault)) text.now files.now (W.contents out.old) (W.contents out.new)
+    ensures failed { IfErr result (λ fault. IsUnsaid Format.Json text.now files.now fault ⊎ (PutsObject (Some (line_of fault)) text.now files.now (W.contents out.old) (W.contents out.new)
         × IsFaultOf (missing_image config.now files.now) (check_refusal config.now files.now) fault)) }
 {
     let words = explanation(alloc, text, files)?;
@@ -191,7 +191,7 @@ fn refusal_json<W: Write>(
     fault: Fault<'static>,
     out: &mut W,
 ) -> Fault<'static>
-    ensures told { ((result ≡ fault.entry) × PutsObject (Some (line_of result)) text.now [] (W.contents out.old) (W.contents out.new)) ⊎ IsUnsaid result }
+    ensures told { ((result ≡ fault.entry) × PutsObject (Some (line_of result)) text.now [] (W.contents out.old) (W.contents out.new)) ⊎ IsUnsaid Format.Json text.now [] result }
     ensures memory { fault.entry ≡ NoMemory → result ≡ NoMemory }
 {
     if let Fault::NoMemory = fault {
@@ -211,7 +211,7 @@ fn put_refusal<W: Write>(
     out: &mut W,
 ) -> Result<(), Fault<'static>>
     ensures written { OnOk result (PutsObject (Some (line_of fault.now)) text.now [] (W.contents out.old) (W.contents out.new)) }
-    ensures failed { IfErr result IsUnsaid }
+    ensures failed { IfErr result (IsUnsaid Format.Json text.now []) }
 {
     let files = Files::new(alloc);
     let words = explanation(alloc, text, &files)?;
@@ -220,8 +220,8 @@ fn put_refusal<W: Write>(
 
 // What `check --explain` says of a text.
 fn explanation(alloc: Global, text: &str, files: &Files) -> Result<String, Fault<'static>>
-    ensures said { IfOk result (λ words. IsExplanation text.now files.now (string_bytes words)) }
-    ensures unsaid { IfErr result IsUnsaid }
+    ensures said { IfOk result (λ words. IsTextExplanation text.now files.now (string_bytes words)) }
+    ensures unsaid { IfErr result (IsUnsaid Format.Json text.now files.now) }
 {
     let mut bytes = Vec::new(alloc);
     put_explained(alloc, text, files, &mut bytes)?;

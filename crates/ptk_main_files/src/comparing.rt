@@ -65,7 +65,7 @@ fn put_impact<'a, W: Write>(
     ensures counted { IfOk result (λ tally. WithReleases old.now new.now (IsComparison options.entry tally (W.contents out.old) (W.contents out.new))) }
     ensures failed { IfErr result (IsImpactFault options.entry (W.contents out.old) (W.contents out.new) old.now new.now) }
 {
-    let old_files = images_of(rt, old, options.root)?;
+    let old_files = images_of(rt, old, options.old_root.or(options.root))?;
     let new_files = images_of(rt, new, options.root)?;
     let before = Release {
         config: old,

@@ -13,6 +13,6 @@ pub returns-clause-failed : goal.returns-clause-failed
 returns-clause-failed g c =
     IfErr-weaker c.put_object.result _ _
     (λ fault failed. elim failed [
-      | inl unsaid ↦ elim unsaid [ inl none ↦ inl none | inr host ↦ inr (inl host) ]
+      | inl unsaid ↦ elim unsaid [ inl none ↦ inl (c.in_ok-files.files, c.in_ok-files.ensures.named, none) | inr host ↦ inr (inl host) ]
       | inr refused ↦ inr (inr (inr (c.in_ok-files.files, c.in_ok-files.ensures.named, refused)))
     ]) c.put_object.ensures.failed

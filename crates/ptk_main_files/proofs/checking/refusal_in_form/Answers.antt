@@ -1,7 +1,7 @@
 use Rattle.std.proofs.Common.{inl, inr, subst, sym, []}
 use Rattle.ptk_main_line.specs.declared.requests.Format.{Format}
 use Rattle.ptk_main_faults.specs.Lines.{line_of}
-use Rattle.ptk_main_files.specs.Outcomes.{PutsRefusal}
+use Rattle.ptk_main_files.specs.Outcomes.{IsUnsaid, PutsRefusal}
 use Rattle.ptk_main_files.proofs.checking.refusal_in_form.Goals as goal
 
 pub returns-in-Text-clause-told : goal.returns-in-Text-clause-told
@@ -27,5 +27,5 @@ returns-in-Json-clause-told g c =
                 (λ (f : Format). PutsRefusal f c.args.options.explain (line_of c.refusal_json.result) c.args.text.now [] (g.W.Write.contents c.args.out.now) (g.W.Write.contents c.refusal_json.new.out))
                 (sym c.in-Json.is) said.1,
           )
-      | inr unsaid ↦ inr unsaid
+      | inr unsaid ↦ inr (subst (λ (f : Format). IsUnsaid f c.args.text.now [] c.refusal_json.result) (sym c.in-Json.is) unsaid)
     ]
