@@ -55,7 +55,7 @@ abbrev pub IsStatusOf : Request → Option (List ℕ) → Option (List ℕ) → 
 IsStatusOf (Run o) old new status = IsRunEnd o old new status
 IsStatusOf (Trace o) old new status = IsTraceAnswer o old new status
 IsStatusOf (Timeline o) old new status = IsTimelineEnd o old new status
-IsStatusOf (Asm o) old new status = IsAsmEnd o status
+IsStatusOf (Asm o) old new status = IsAsmEnd o status × (new ≡ old)
 IsStatusOf (Check o) old new status = IsCheckEnd o old new status
 IsStatusOf (Disasm o) old new status = IsDisasmEnd o old new status
 IsStatusOf (Impact o) old new status = IsImpactEnd o old new status

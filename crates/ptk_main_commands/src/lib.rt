@@ -10,8 +10,8 @@
 //!   where they ask for nothing, or for memory, and nothing is written then (`answer_to`: `IsAnswer`).
 //! - The status of a request is that of its own command, by what came of it, and what it has written stands with it
 //!   (`obey`: `IsStatusOf`): it is done only where what was asked for is written; of the files of `asm` and `disasm`
-//!   the status says nothing (`asm_text`, `put_source` of `ptk_main_tools` do). Where the file of a configuration is
-//!   not read, nothing is written on the writer.
+//!   the status says nothing (`asm_by`, `disasm_by` of `ptk_main_tools` do). Where the file of a configuration is not
+//!   read, or `disasm` is refused, nothing is written on the writer, and by `asm` nothing ever.
 //! - So `stats` and `explain` are done only where, for some files that are images of the sections and nothing else, the
 //!   figures, or how the partition stands, of the run that is asked for are written as text or as JSON; `timeline` only
 //!   where the ticks that are asked for are, as SVG, as a Value Change Dump or as trace events. A fault is of a file
@@ -31,10 +31,8 @@ mod standing;
 
 pub use commands::{answer_to, answer_words, obey};
 pub use picture::timeline_answer;
-pub use ptk_explanation as explanation;
 pub use ptk_main_files::{
     answers, bytes_in, check_config, config_in, disasm, impacts, put_place, refusal_explained,
     tell, text_in, unread, usage,
 };
 pub use ptk_statistics as statistics;
-pub use ptk_timeline_formats as formats;
