@@ -80,7 +80,7 @@ const BYTES: [(&str, &[u8]); 6] = [
 ];
 
 /// Command lines with their statuses, in this order: some read what others before them wrote.
-const COMMANDS: [(&str, u8); 80] = [
+const COMMANDS: [(&str, u8); 83] = [
     ("ptk", 2),
     ("ptk --help", 0),
     ("ptk run alone.toml --ticks 1099511627777", 2),
@@ -148,6 +148,12 @@ const COMMANDS: [(&str, u8); 80] = [
     ("ptk impact missing.toml missing.toml", 1),
     ("ptk impact none.toml two.toml", 1),
     ("ptk impact two.toml .", 3),
+    ("ptk impact alone.toml alone.toml --old-root .", 0),
+    ("ptk impact alone.toml alone.toml --old-root none", 1),
+    (
+        "ptk impact alone.toml alone.toml --old-root . --root none",
+        1,
+    ),
     // an image and labels of a source
     ("ptk asm hello.s hello.img", 0),
     ("ptk asm hello.s none/hello.img", 3),

@@ -34,6 +34,9 @@ const PILOT_P: &str = "[[partition]]\nname = \"pilot\"\nimage = \"p.img\"\n";
 
 const PILOT_FIRST: &str = "[[window]]\nstart = 0\nlength = 20\npartition = \"pilot\"\n";
 
+// The window of p for q.
+const Q_FIRST: &str = "[[window]]\nstart = 0\nlength = 20\npartition = \"q\"\n";
+
 /// The windows of both partitions in the other half of a frame of 80 ticks.
 const AGAIN: &str =
     "[[window]]\nstart = 40\nlength = 20\npartition = \"p\"\n[[window]]\nstart = 60\nlength = 20\npartition = \"q\"\n";
@@ -79,6 +82,12 @@ const ALL: Question<'static> = Question {
 /// The question for all partitions, of which p has the name pilot.
 const PILOT: Question<'static> = Question {
     partition: None,
+    rename: Some("p=pilot"),
+};
+
+/// The question for p, which has the name pilot.
+const PILOT_AS_P: Question<'static> = Question {
+    partition: Some("p"),
     rename: Some("p=pilot"),
 };
 
@@ -224,7 +233,7 @@ static EACH_KIND: Case<'static> = Case {
 };
 
 /// Other questions with their answers in words: the same run, another one, and what is refused.
-static CASES: [Case<'static>; 17] = [
+static CASES: [Case<'static>; 22] = [
     // the sections in another order
     Case {
         old: &BOTH,
@@ -248,6 +257,33 @@ static CASES: [Case<'static>; 17] = [
         question: PILOT,
         outcome: Ok(true),
         written: "pilot: unchanged\n  name: p -> pilot (no change of behaviour)\n1 unchanged, 0 unchanged but for the trace kept, 0 changed, 0 new, 0 gone\n",
+    },
+    // the name of another one, which is gone
+    Case {
+        old: &BOTH,
+        new: &[FRAME, Q, NUMBERS, Q_FIRST],
+        question: Question {
+            partition: None,
+            rename: Some("p=q"),
+        },
+        outcome: Ok(false),
+        written: "q: unchanged\n  name: p -> q (no change of behaviour)\nq: gone\n1 unchanged, 0 unchanged but for the trace kept, 0 changed, 0 new, 1 gone\n",
+    },
+    // one partition alone, asked for by the name that it had
+    Case {
+        old: &ALONE,
+        new: &[FRAME, PILOT_P, NUMBERS, PILOT_FIRST],
+        question: PILOT_AS_P,
+        outcome: Ok(true),
+        written: "pilot: unchanged\n  name: p -> pilot (no change of behaviour)\n1 unchanged, 0 unchanged but for the trace kept, 0 changed, 0 new, 0 gone\n",
+    },
+    // the same, with more memory and a key less
+    Case {
+        old: &ALONE,
+        new: &[FRAME, PILOT_P, CHANGED, PILOT_FIRST],
+        question: PILOT_AS_P,
+        outcome: Ok(false),
+        written: "pilot: changed\n  memory: 4096 -> 8192\n  keys: 4 -> 3\n  name: p -> pilot (no change of behaviour)\n0 unchanged, 0 unchanged but for the trace kept, 1 changed, 0 new, 0 gone\n",
     },
     // one partition alone, whose neighbour is removed
     Case {
@@ -368,6 +404,27 @@ static CASES: [Case<'static>; 17] = [
             rename: Some("p=q,p"),
         },
         outcome: Err(Fault::NoPartition("p")),
+        written: "",
+    },
+    // two partitions of one new name, and one of two new names
+    Case {
+        old: &BOTH,
+        new: &[FRAME, PILOT_P, NUMBERS, PILOT_FIRST],
+        question: Question {
+            partition: None,
+            rename: Some("p=pilot,q=pilot"),
+        },
+        outcome: Err(Fault::NoPartition("q=pilot")),
+        written: "",
+    },
+    Case {
+        old: &ALONE,
+        new: &BOTH,
+        question: Question {
+            partition: None,
+            rename: Some("p=p,p=q"),
+        },
+        outcome: Err(Fault::NoPartition("p=q")),
         written: "",
     },
 ];

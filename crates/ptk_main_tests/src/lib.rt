@@ -2,8 +2,7 @@
 
 //! Tests of the program: the bytes that its requests write, and what its command lines do with real files.
 //!
-//! - The bytes are those of the public calls of `ptk_main_answers`, `ptk_impact_answers`, `ptk_timeline_formats`,
-//!   `ptk_explanation` and `ptk_statistics`.
+//! - The bytes are those of the public calls of `ptk_main_answers`, `ptk_impact_answers` and `ptk_statistics`.
 //! - Of a command line (`ptk_main_commands`) it is the status, the fault behind a status that several share, and the
 //!   files that `asm` and `disasm` write.
 //!
@@ -14,12 +13,6 @@
 mod answers;
 #[cfg(test)]
 mod commands;
-#[cfg(test)]
-mod decoded;
-#[cfg(test)]
-mod explanations;
-#[cfg(test)]
-mod formats;
 #[cfg(test)]
 mod impacts;
 #[cfg(test)]

@@ -1,7 +1,7 @@
 #![tactic(auto)]
 
 //! Tests of the texts that the program reads and of the lines that it writes of faults, by the public calls of
-//! `ptk_config`, `ptk_config_places`, `ptk_config_explain`, `ptk_main_line` and `ptk_main_faults`.
+//! `ptk_config`, `ptk_config_places`, `ptk_config_explain` and `ptk_main_faults`.
 //!
 //! There is a file for each. They use public names alone and are apart, so that those crates are proved once and not a
 //! second time with their tests. There is no other code here, and nothing is above.
@@ -14,5 +14,3 @@ mod config_places;
 mod config_table;
 #[cfg(test)]
 mod main_faults;
-#[cfg(test)]
-mod main_line;

@@ -2,10 +2,10 @@
 //! that is not before the last is refused, and that a run ends where its writer fails. What is wanted was worked out by
 //! hand: the steps begin at ticks 0, 1, 2, 6, 7, 8, 12, 13 and 14, and the last one halts the partition.
 
-use ptk_main_commands::formats::{Form, FormatFault, dump_with};
 use ptk_main_guests::sources::HELLO;
 use ptk_main_guests::{Config, Files, guest_of};
 use ptk_symbols::{Symbols, read_symbols};
+use ptk_timeline_formats::{Form, FormatFault, dump_with};
 use ptk_words::Tick;
 use std::alloc::Global;
 use std::io::Write;

@@ -1,7 +1,7 @@
 //! How partitions stand. What is wanted was worked out by hand; the ticks stand beside the guests, a column for each
 //! step's first tick.
 
-use ptk_main_commands::explanation::{Form, explain_partition_with};
+use ptk_explanation::{Form, explain_partition_with};
 use ptk_main_guests::{ALONE, Config, Files, guest_of};
 use ptk_symbols::{Symbols, read_symbols};
 use ptk_words::{LAST_TICK, Tick};

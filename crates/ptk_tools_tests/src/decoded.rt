@@ -1,15 +1,12 @@
 //! The lines of a decoded trace: of row hello with symbols, and of a guest whose calls reply errors and block, its
 //! calls alone. What is wanted was worked out by hand.
 
-use crate::parts::{FIRST, NUMBERS};
-use ptk_main_commands::answers::{Filter, decoded_trace_with};
+use ptk_main_answers::{Filter, decoded_trace_with};
 use ptk_main_guests::sources::HELLO;
-use ptk_main_guests::{Config, Files, P, guest_of};
+use ptk_main_guests::{ALONE, Config, Files, guest_of};
 use ptk_symbols::{Symbols, read_symbols};
 use ptk_words::{ThreadNo, Tick};
 use std::alloc::Global;
-
-const CONFIGURATION: [&str; 4] = ["frame = 20\n", P, NUMBERS, FIRST];
 
 const HELLO_SYMBOLS: &str = "00000000 T _start\n00000018 t end\n";
 
@@ -59,7 +56,7 @@ fn is_traced(
 // Whether it has them with this guest and these symbols.
 fn is_decoded(alloc: Global, source: &str, symbols: &str, filter: &Filter, want: &str) -> bool {
     match (
-        guest_of(alloc, &CONFIGURATION, &[source]),
+        guest_of(alloc, &ALONE, &[source]),
         read_symbols(alloc, symbols),
     ) {
         (Some((config, files)), Ok(symbols)) => {
