@@ -3,10 +3,17 @@
 
 use ptk_main_answers::{Filter, decoded_trace_with};
 use ptk_main_guests::sources::HELLO;
-use ptk_main_guests::{ALONE, Config, Files, guest_of};
+use ptk_main_guests::{Config, Files, P, guest_of};
 use ptk_symbols::{Symbols, read_symbols};
 use ptk_words::{ThreadNo, Tick};
 use std::alloc::Global;
+
+const NUMBERS: &str =
+    "memory = 4096\nthreads = 4\nstack = 256\nmutexes = 4\nconds = 4\nkeys = 4\ninterval = 100\nring = 16\noutput = 64\ntrace = 16\n";
+
+const WINDOW: &str = "[[window]]\nstart = 0\nlength = 20\npartition = \"p\"\n";
+
+const CONFIGURATION: [&str; 4] = ["frame = 20\n", P, NUMBERS, WINDOW];
 
 const HELLO_SYMBOLS: &str = "00000000 T _start\n00000018 t end\n";
 
@@ -56,7 +63,7 @@ fn is_traced(
 // Whether it has them with this guest and these symbols.
 fn is_decoded(alloc: Global, source: &str, symbols: &str, filter: &Filter, want: &str) -> bool {
     match (
-        guest_of(alloc, &ALONE, &[source]),
+        guest_of(alloc, &CONFIGURATION, &[source]),
         read_symbols(alloc, symbols),
     ) {
         (Some((config, files)), Ok(symbols)) => {
