@@ -1,12 +1,12 @@
 //! The last steps, and their lines.
 
-ghost use Rattle.std.specs.Prelude.{◌≡◌, ◌≤◌, ◌++◌, List, ◌∷◌, [], length, take, drop, IfOk, OnOk};
+ghost use Rattle.std.specs.Prelude.{◌≡◌, ◌<◌, ◌≤◌, ◌^◌, ◌++◌, List, ◌∷◌, [], length, take, drop, All, IfOk, OnOk};
 ghost use Rattle.std.specs.Io.KnownBytes.{Appends};
 ghost use Rattle.circular_buffer.specs.Buffer.{Buffer};
 ghost use Rattle.ptk_words.specs.declared.sections.Entry.{Entry};
 ghost use Rattle.ptk_words_model.specs.Run.{last_of};
 ghost use Rattle.ptk_words_model.specs.Text.{trace_line, trace_text};
-ghost use Rattle.ptk_trace.specs.KeptSteps.{with_newest, kept_steps};
+ghost use Rattle.ptk_trace.specs.KeptSteps.{IsStep, with_newest, kept_steps};
 
 use crate::noting::Noting;
 use circular_buffer::HeapCircularBuffer;
@@ -102,7 +102,8 @@ impl Trace {
     /// Writes the lines of the steps that are kept, oldest first, a newline after each, and takes no memory. An error
     /// where the writer fails; the trace stays as it was.
     pub fn lines<W: Write>(&self, out: &mut W) -> io::Result<()>
-        ensures { OnOk result (Appends (W.contents out.old) (W.contents out.new) (trace_text self.now.entries)) }
+        ensures lines { OnOk result (Appends (W.contents out.old) (W.contents out.new) (trace_text self.now.entries)) }
+        ensures steps { OnOk result (All IsStep self.now.entries) }
     {
         let (front, back) = self.ring.as_slices();
         let newest = &self.batch[..self.noted];
@@ -147,7 +148,8 @@ fn after(entries: &[Entry], count: usize) -> &[Entry]
 
 // The lines of the steps, in order.
 fn put_lines<W: Write>(out: &mut W, entries: &[Entry]) -> io::Result<()>
-    ensures { OnOk result (Appends (W.contents out.old) (W.contents out.new) (trace_text entries.now)) }
+    ensures lines { OnOk result (Appends (W.contents out.old) (W.contents out.new) (trace_text entries.now)) }
+    ensures steps { OnOk result (All IsStep entries.now) }
 {
     for entry in entries {
         put_line(out, entry)?;
@@ -157,10 +159,19 @@ fn put_lines<W: Write>(out: &mut W, entries: &[Entry]) -> io::Result<()>
 
 // The line of a step.
 fn put_line<W: Write>(out: &mut W, entry: &Entry) -> io::Result<()>
-    ensures { OnOk result (Appends (W.contents out.old) (W.contents out.new) (trace_line entry.now)) }
+    ensures step { IsStep entry.now }
+    ensures line { OnOk result (Appends (W.contents out.old) (W.contents out.new) (trace_line entry.now)) }
 {
     let tick = Decimal(entry.tick.ticks());
     let thread = Decimal(u64::from(entry.thread.number()));
-    let (pc, word, a0) = (Word(entry.pc), Word(entry.word), Word(entry.a0));
+    let (pc, word, a0) = (shown(entry.pc), shown(entry.word), shown(entry.a0));
     writeln!(out, "{tick} {thread} {pc} {word} {a0}")
+}
+
+// A number of 32 bits, as it is shown.
+fn shown(number: u32) -> Word
+    ensures value { result.0 ≡ number }
+    ensures fits { number < 2 ^ 32 }
+{
+    Word(number)
 }
