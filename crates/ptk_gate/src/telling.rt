@@ -57,6 +57,14 @@ impl Tables {
         self.pools.look(p).is_cancel_pending(t)
     }
 
+    /// Whether a cancellation took a thread out of its wait: its next step begins its unwinding (XSH 2.9.5.2).
+    pub fn is_marked(&self, p: PartId, t: ThreadNo) -> bool
+        requires { p < length self.now.limits }
+        ensures { result ≡ (unwrap_or (numbered (part_at p self.now).cancellations t) new_cancellation).is_marked }
+    {
+        self.pools.look(p).is_marked(t)
+    }
+
     /// The tick of the partition's first input still to come; None where none is.
     pub fn next_arrival_tick(&self, p: PartId) -> Option<Tick>
         requires { p < length self.now.limits }

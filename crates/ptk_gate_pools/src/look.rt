@@ -147,6 +147,15 @@ impl Look<'_> {
         pools.cancellations.is_pending(self.p, t)
     }
 
+    /// Whether a cancellation took the thread out of its wait: its next step begins its unwinding (XSH 2.9.5.2).
+    #[tactic(auto, using(crate::proofs::Hands::taken))]
+    pub fn is_marked(&self, t: ThreadNo) -> bool
+        ensures { result ≡ (unwrap_or (numbered self.now.part.cancellations t) new_cancellation).is_marked }
+    {
+        let pools = self.pools;
+        pools.cancellations.is_marked(self.p, t)
+    }
+
     /// The first thread of the line's greatest effective priority, where all of them are in use; None of an empty line
     /// (XSH 2.8.4).
     pub fn first_ready(&self) -> Option<ThreadNo>

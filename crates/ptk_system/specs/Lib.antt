@@ -8,3 +8,4 @@ pub mod Loaded
 pub mod Laws
 pub mod BootNumbers
 pub use Rattle.ptk_system_machine.specs.ByThread
+pub use Rattle.ptk_trace.specs.KeptSteps

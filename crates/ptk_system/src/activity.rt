@@ -145,6 +145,14 @@ impl<'a> System<'a> {
         self.kept().tables().is_cancel_pending(p, t)
     }
 
+    /// Whether a cancellation took a thread out of its wait: its next step begins its unwinding (XSH 2.9.5.2).
+    pub fn is_marked(&self, p: PartId, t: ThreadNo) -> bool
+        requires { p < length self.now.config.sections }
+        ensures { result ≡ (unwrap_or (numbered (state_of self.now p).part.cancellations t) new_cancellation).is_marked }
+    {
+        self.kept().tables().is_marked(p, t)
+    }
+
     /// The tick of the partition's next decision, None where there is none: it is halted, or has no window.
     pub fn next(&self, p: PartId) -> Option<Tick>
         requires { p < length self.now.config.sections }

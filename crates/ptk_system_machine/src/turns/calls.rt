@@ -5,14 +5,13 @@ ghost use Rattle.ptk_words.specs.declared.TheConstants.{LAST_TICK};
 ghost use Rattle.ptk_words_windows.specs.Windows.{own_ticks};
 ghost use Rattle.ptk_words_batches.specs.Quiet.{after_ticks};
 ghost use Rattle.ptk_kernel.specs.Kept.{limits_at, part_at};
-ghost use Rattle.ptk_kernel.specs.Rows.{IsStill};
 ghost use Rattle.ptk_system_machine.specs.Accounts.{IsBehind};
 ghost use Rattle.ptk_system_machine.specs.Steady.{AreSteady, IsStillBehindCall, states_from};
 ghost use Rattle.ptk_system_machine.specs.Turns.{IsComing, IsPlainAt};
 ghost use Rattle.ptk_system_machine.specs.Whole.{AreWindowsOf, account_at, gone_on, state_at};
 
 use crate::machine::Machine;
-use ptk_kernel::{Quiet, quiet_until};
+use ptk_kernel::quiet_until;
 use ptk_window::{Turn, WindowPlan};
 use ptk_words::{PartId, Tick};
 
