@@ -1,7 +1,8 @@
 //! Why an answer is not written to its end.
 
-use crate::runs::RunFault;
-use ptk_system::BootFault;
+ghost use Rattle.std.specs.Prelude.{◌≡◌};
+ghost use Rattle.ptk_main_runs.specs.declared.fault.PutFault.TheVariants as put;
+
 use std::alloc::AllocError;
 use std::io;
 
@@ -15,28 +16,25 @@ pub enum PutFault {
 }
 
 impl From<AllocError> for PutFault {
+    ghost from_gives = { λ _ fault. fault ≡ put.Memory };
+
     fn from(_error: AllocError) -> PutFault {
         PutFault::Memory
     }
 }
 
 impl From<io::Error> for PutFault {
+    ghost from_gives = { λ _ fault. fault ≡ put.Write };
+
     fn from(_error: io::Error) -> PutFault {
         PutFault::Write
     }
 }
 
 impl From<serde_json::Error> for PutFault {
+    ghost from_gives = { λ _ fault. fault ≡ put.Memory };
+
     fn from(_error: serde_json::Error) -> PutFault {
         PutFault::Memory
-    }
-}
-
-impl From<PutFault> for RunFault {
-    fn from(fault: PutFault) -> RunFault {
-        match fault {
-            PutFault::Memory => RunFault::Boot(BootFault::Memory),
-            PutFault::Write => RunFault::Write,
-        }
     }
 }

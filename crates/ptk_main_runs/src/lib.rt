@@ -4,7 +4,7 @@
 //! words of a report, by themselves.
 //!
 //! - `run_with` and `trace_with` write the report, or the named partition's trace, of the booted configuration after
-//!   the given ticks.
+//!   the given ticks. A trace that is written has only steps with a thread's number and words (`steps`: `IsStep`).
 //! - Where they are refused the writer is as it was (`silent`).
 //! - `part_named` is the first section of a name; `cause_word` is the report's word for a cause.
 //!

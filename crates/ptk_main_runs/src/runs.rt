@@ -1,9 +1,10 @@
 //! Whole runs: from a configuration, its files and a number of ticks to a report or a trace.
 
-ghost use Rattle.std.specs.Prelude.{◌≡◌, ◌≢◌, ◌<◌, ◌≤◌, ℕ, Some, None, IfErr, IfOk, IfSome, IsSome, MatchResult, OnOk, length};
+ghost use Rattle.std.specs.Prelude.{◌≡◌, ◌≢◌, ◌<◌, ◌≤◌, ℕ, All, Some, None, IfErr, IfOk, IfSome, IsSome, MatchResult, OnOk, length};
 ghost use Rattle.std.specs.Io.KnownBytes.{Appends};
 ghost use Rattle.ptk_words.specs.declared.TheConstants.{LAST_TICK};
 ghost use Rattle.ptk_words_model.specs.Text.{trace_text};
+ghost use Rattle.ptk_system.specs.KeptSteps.{IsStep};
 ghost use Rattle.ptk_system.specs.Missing.{first_missing};
 ghost use Rattle.ptk_system.specs.Shown.{report_of};
 ghost use Rattle.ptk_system.specs.World.{state_of, world_at};
@@ -70,6 +71,8 @@ pub fn trace_with<W: Write>(
     requires { ticks ≤ LAST_TICK }
     ensures trace { OnOk result ((p : ℕ) → part_named config.now name.now ≡ Some p → Appends (W.contents out.old) (W.contents out.new)
         (trace_text (state_of (world_at config.now files.now ticks) p).account.trace)) }
+    ensures steps { OnOk result ((p : ℕ) → part_named config.now name.now ≡ Some p →
+        All IsStep (state_of (world_at config.now files.now ticks) p).account.trace) }
     ensures known { OnOk result (IsSome (part_named config.now name.now)) }
     ensures unknown { IfErr result (λ fault. fault ≡ NoPartition → part_named config.now name.now ≡ None) }
     ensures first { IfErr result (λ fault. part_named config.now name.now ≡ None → fault ≡ NoPartition) }
@@ -106,6 +109,7 @@ fn traced<W: Write>(
     requires partition { p < length config.now.sections }
     ensures trace { OnOk result (Appends (W.contents out.old) (W.contents out.new)
         (trace_text (state_of (world_at config.now files.now ticks) p).account.trace)) }
+    ensures steps { OnOk result (All IsStep (state_of (world_at config.now files.now ticks) p).account.trace) }
     ensures known { IfErr result (λ fault. fault ≢ NoPartition) }
     ensures missing { MatchResult result
         (λ _. first_missing files.now config.now.sections ≡ None)
