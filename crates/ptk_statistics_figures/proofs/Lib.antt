@@ -1,1 +1,3 @@
 pub mod OwnTicks
+pub mod OwnFrames
+pub mod Shares

@@ -9,7 +9,7 @@ use Rattle.ptk_words_windows.proofs.OwnLaws.{end_none, window_whole}
 use Rattle.ptk_statistics_figures.specs.Own.{own_below}
 
 -- one of an own tick
-abbrev one_of : Option ℕ → ℕ
+abbrev pub one_of : Option ℕ → ℕ
 one_of o = if is_some o then 1 else 0
 
 -- none before the first tick

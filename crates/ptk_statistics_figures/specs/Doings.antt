@@ -1,5 +1,5 @@
 -- The kinds of what a thread does.
-use Rattle.std.specs.Prelude.{ℕ, Bool, true, false, ◌&&◌, not}
+use Rattle.std.specs.Prelude.{ℕ, Bool, true, false, ◌&&◌, ◌||◌, not}
 use Rattle.ptk_statistics_figures.specs.declared.doing.Doing.{Doing}
 use Rattle.ptk_statistics_figures.specs.declared.doing.Doing.TheVariants.{Free, Running, Ready, Input, Sleep, Join, Mutex, Condition, Relock, Ended, Halted}
 
@@ -46,13 +46,17 @@ is_blocked Relock = true
 is_blocked Ended = false
 is_blocked Halted = false
 
+-- the thread is awake: it is running or ready (own)
+abbrev pub is_awake : Doing → Bool
+is_awake kind = is_running kind || is_ready kind
+
 -- a thread that goes from the one to the other is dispatched (XSH 2.8.4)
 abbrev pub is_dispatch : Doing → Doing → Bool
 is_dispatch from to = is_ready from && is_running to
 
 -- a thread that goes from the one to the other wakes (own)
 abbrev pub is_wake : Doing → Doing → Bool
-is_wake from to = is_blocked from && not (is_blocked to)
+is_wake from to = is_blocked from && is_awake to
 
 -- a thread that goes from the one to the other blocks (own)
 abbrev pub is_block : Doing → Doing → Bool

@@ -9,7 +9,7 @@ use Rattle.ptk_statistics_figures.specs.declared.moment.Spread.{Spread}
 use Rattle.ptk_statistics_figures.specs.declared.thread.CallCount.{CallCount}
 use Rattle.ptk_statistics_figures.specs.declared.thread.TheConstants.{NUMBERS}
 use Rattle.ptk_statistics_figures.specs.declared.thread.ThreadStatistics.{ThreadStatistics}
-use Rattle.ptk_statistics_figures.specs.Doings.{is_block, is_dispatch, is_free, is_wake, place_of_doing}
+use Rattle.ptk_statistics_figures.specs.Doings.{is_awake, is_block, is_dispatch, is_free, is_wake, place_of_doing}
 use Rattle.ptk_statistics_figures.specs.Lengths.{measured, no_spread}
 use Rattle.ptk_statistics_figures.specs.Times.{capped_sum, first_moment, greater_span, no_span, span_sum, time_between}
 
@@ -61,9 +61,9 @@ spans_until at thread = slice_set thread.spans (place_of_doing thread.doing) (sp
 abbrev pub dispatch_at_turn : Doing → Moment → ThreadStatistics → Span
 dispatch_at_turn kind at thread = if is_dispatch thread.doing kind then greater_span thread.dispatch (time_between thread.since at) else thread.dispatch
 
--- from when on it is awake, where it turns to this at a moment: from then on where it wakes, and not any more where it blocks (own)
+-- the moment of the wake since which it is awake, where it turns to this at a moment: that moment where it wakes, else as before while it is awake, and None where it is not (own)
 abbrev pub woken_at_turn : Doing → Moment → ThreadStatistics → Option Moment
-woken_at_turn kind at thread = if is_wake thread.doing kind then Some at else (if is_block thread.doing kind then None else thread.woken)
+woken_at_turn kind at thread = if is_wake thread.doing kind then Some at else (if is_awake kind then thread.woken else None)
 
 -- activations with the one from a wake, if there was one, to a moment (own)
 abbrev pub with_activation : Option Moment → Moment → Spread → Spread

@@ -4,7 +4,7 @@ ghost use Rattle.std.specs.Prelude.{◌≡◌, ◌+◌, ◌-◌, ◌<◌, ◌≤
 ghost use Rattle.ptk_words.specs.declared.TheConstants.{LAST_TICK, THREAD_LIMIT};
 ghost use Rattle.ptk_words_windows.specs.Windows.{OwnTicks, own_ticks};
 ghost use Rattle.ptk_statistics_figures.specs.Own.{IsOwnWindow, own_below};
-ghost use Rattle.ptk_statistics_figures.specs.Counts.{Adds, counted_ticks, lost_in, reached, share_of, steps_by_thread, steps_in};
+ghost use Rattle.ptk_statistics_figures.specs.Counts.{Adds, counted_ticks, counts_of, counts_on, going_until, gone_on, lost_in, no_counts, passed, reached, share_of, steps_by_thread, steps_in, with_own, with_share, with_steps};
 
 use crate::own::{OwnWindow, own_between};
 use ptk_window::{Near, WindowPlan};
@@ -63,6 +63,7 @@ impl Counted {
         ensures steps { steps_in result ≡ 0 }
         ensures lost { lost_in result ≡ 0 }
         ensures adds { (ticks : OwnTicks) → Adds ticks result }
+        ensures counts { counts_of result ≡ no_counts next is_halted }
     {
         Counted {
             used: 0,
@@ -94,11 +95,9 @@ impl Counted {
         ensures steps { steps_in self.new ≡ seen.now.steps }
         ensures lost { lost_in self.new ≡ seen.now.lost }
         ensures adds { Adds (own_ticks plan.now p) self.new }
+        ensures counts { counts_of self.new ≡ counts_on (own_ticks plan.now p) now seen.now (counts_of self.old) }
     {
-        let going = self.going_until(now);
-        if self.tick < going {
-            self.pass(plan, p, going, Share::Used);
-        }
+        self.go_on(plan, p, now);
         self.ahead = seen.lost - self.lost;
         let share = self.share_of(seen.steps);
         self.pass(plan, p, now, share);
@@ -107,11 +106,32 @@ impl Counted {
         self.is_halted = seen.is_halted;
     }
 
+    /// Counts the ticks that the partition's last decision takes, up to this one.
+    #[inline(always)]
+    fn go_on(&mut self, plan: &WindowPlan, p: PartId, now: u64)
+        requires order { self.old.tick ≤ now }
+        requires time { now ≤ LAST_TICK }
+        requires ticks { counted_ticks self.old ≡ own_below (own_ticks plan.now p) self.old.tick }
+        requires window { IsOwnWindow (own_ticks plan.now p) self.old.window }
+        ensures window { IsOwnWindow (own_ticks plan.now p) self.new.window }
+        ensures within { self.new.tick ≤ now }
+        ensures ticks { counted_ticks self.new ≡ own_below (own_ticks plan.now p) self.new.tick }
+        ensures lost { self.new.lost + self.new.ahead ≡ self.old.lost + self.old.ahead }
+        ensures counts { counts_of self.new ≡ gone_on (own_ticks plan.now p) now (counts_of self.old) }
+    {
+        let going = self.going_until(now);
+        if going <= self.tick {
+            return;
+        }
+        self.pass(plan, p, going, Share::Used);
+    }
+
     /// Up to which tick the partition's last decision takes its windows, at most up to this one.
     fn going_until(&self, now: u64) -> u64
         requires { self.now.tick ≤ now }
         ensures from { self.now.tick ≤ result }
         ensures within { result ≤ now }
+        ensures until { result ≡ going_until now (counts_of self.now) }
     {
         if self.is_halted {
             return self.tick;
@@ -124,7 +144,7 @@ impl Counted {
 
     /// What becomes of the ticks behind that decision, of a partition that has made this many steps.
     fn share_of(&self, steps: u64) -> Share
-        ensures { result ≡ share_of steps self.now }
+        ensures { result ≡ share_of steps (counts_of self.now) }
     {
         if self.is_halted {
             Share::Halted
@@ -146,8 +166,7 @@ impl Counted {
         ensures tick { self.new.tick ≡ to }
         ensures ticks { counted_ticks self.new ≡ own_below (own_ticks plan.now p) self.new.tick }
         ensures lost { self.new.lost + self.new.ahead ≡ self.old.lost + self.old.ahead }
-        ensures steps { self.new.steps ≡ self.old.steps }
-        ensures made { self.new.made ≡ self.old.made }
+        ensures counts { counts_of self.new ≡ passed (own_ticks plan.now p) to share (counts_of self.old) }
     {
         let own = own_between(plan, p, &mut self.near, &mut self.window, self.tick, to);
         self.add(own, share);
@@ -160,9 +179,7 @@ impl Counted {
         requires { counted_ticks self.old + own ≤ LAST_TICK }
         ensures ticks { counted_ticks self.new ≡ counted_ticks self.old + own }
         ensures lost { self.new.lost + self.new.ahead ≡ self.old.lost + self.old.ahead }
-        ensures steps { self.new.steps ≡ self.old.steps }
-        ensures made { self.new.made ≡ self.old.made }
-        ensures tick { self.new.tick ≡ self.old.tick }
+        ensures counts { counts_of self.new ≡ with_own share own (counts_of self.old) }
         ensures window { self.new.window ≡ self.old.window }
     {
         let lost = own.min(self.ahead);
@@ -175,11 +192,7 @@ impl Counted {
     fn give(&mut self, ticks: u64, share: Share)
         requires { counted_ticks self.old + ticks ≤ LAST_TICK }
         ensures ticks { counted_ticks self.new ≡ counted_ticks self.old + ticks }
-        ensures lost { self.new.lost ≡ self.old.lost }
-        ensures ahead { self.new.ahead ≡ self.old.ahead }
-        ensures steps { self.new.steps ≡ self.old.steps }
-        ensures made { self.new.made ≡ self.old.made }
-        ensures tick { self.new.tick ≡ self.old.tick }
+        ensures counts { counts_of self.new ≡ with_share share ticks (counts_of self.old) }
         ensures window { self.new.window ≡ self.old.window }
     {
         match share {
@@ -196,6 +209,7 @@ impl Counted {
         requires sum { sum self.old.steps ≡ self.old.made }
         ensures sum { sum self.new.steps ≡ steps }
         ensures same { self.new ≡ record self.old { steps = self.new.steps; made = steps } }
+        ensures counts { counts_of self.new ≡ with_steps steps place (counts_of self.old) }
     {
         self.steps[place] += steps - self.made;
         self.made = steps;

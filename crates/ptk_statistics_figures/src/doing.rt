@@ -2,7 +2,7 @@
 
 ghost use Rattle.std.specs.Prelude.{◌≡◌, ◌<◌};
 ghost use Rattle.ptk_statistics_figures.specs.declared.doing.TheConstants.{DOINGS};
-ghost use Rattle.ptk_statistics_figures.specs.Doings.{is_block, is_blocked, is_dispatch, is_free, is_running, is_wake, place_of_doing};
+ghost use Rattle.ptk_statistics_figures.specs.Doings.{is_awake, is_block, is_blocked, is_dispatch, is_free, is_running, is_wake, place_of_doing};
 
 /// How many kinds there are.
 pub(crate) const DOINGS: usize = 11;
@@ -108,6 +108,24 @@ impl Doing {
         }
     }
 
+    /// Whether it is awake: it is running or ready.
+    pub(crate) fn is_awake(self) -> bool
+        ensures { result ≡ is_awake self }
+    {
+        match self {
+            Doing::Running | Doing::Ready => true,
+            Doing::Free
+            | Doing::Input
+            | Doing::Sleep
+            | Doing::Join
+            | Doing::Mutex
+            | Doing::Condition
+            | Doing::Relock
+            | Doing::Ended
+            | Doing::Halted => false,
+        }
+    }
+
     /// Whether a thread that goes from this to another kind is dispatched: it was ready, and runs (XSH 2.8.4).
     pub(crate) fn is_dispatch(self, to: Doing) -> bool
         ensures { result ≡ is_dispatch self to }
@@ -127,11 +145,11 @@ impl Doing {
         }
     }
 
-    /// Whether a thread that goes from this to another kind wakes: it was blocked, and is not any more.
+    /// Whether a thread that goes from this to another kind wakes: it was blocked, and is awake.
     pub(crate) fn is_wake(self, to: Doing) -> bool
         ensures { result ≡ is_wake self to }
     {
-        self.is_blocked() && !to.is_blocked()
+        self.is_blocked() && to.is_awake()
     }
 
     /// Whether a thread that goes from this to another kind blocks: it was not blocked, and is now.

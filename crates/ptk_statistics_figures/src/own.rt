@@ -3,7 +3,7 @@
 ghost use Rattle.std.specs.Prelude.{◌≡◌, ◌+◌, ◌<◌, ◌≤◌};
 ghost use Rattle.ptk_words.specs.declared.TheConstants.{LAST_TICK};
 ghost use Rattle.ptk_words_windows.specs.Windows.{own_ticks};
-ghost use Rattle.ptk_statistics_figures.specs.Own.{IsOwnWindow, own_below};
+ghost use Rattle.ptk_statistics_figures.specs.Own.{IsInOneStage, IsOwnWindow, own_below};
 
 use ptk_window::{Near, WindowPlan};
 use ptk_words::{PartId, Tick};
@@ -16,8 +16,8 @@ pub(crate) struct OwnWindow {
 }
 
 /// How many ticks from one on and before another lie in the partition's windows. There is nothing to look up where all
-/// lie in the window at hand, which the last one looked up is then. Else it goes from window to window; `near` is where
-/// the partition was last found among them.
+/// lie in the window at hand, which the last one looked up is then. Else it goes from window to window, and over whole
+/// frames of a stage at once; `near` is where the partition was last found among the windows.
 #[inline(always)]
 pub(crate) fn own_between(
     plan: &WindowPlan,
@@ -39,10 +39,73 @@ pub(crate) fn own_between(
     own_apart(plan, p, near, window, from, to)
 }
 
-/// As `own_between`, where some of the ticks lie outside the window at hand.
+/// As `own_between`, where some of the ticks lie outside the window at hand: from window to window where they are fewer
+/// than a frame has, and else from the beginning of a stage to the next.
 #[cold]
 #[inline(never)]
 fn own_apart(
+    plan: &WindowPlan,
+    p: PartId,
+    near: &mut Near,
+    window: &mut OwnWindow,
+    from: u64,
+    to: u64,
+) -> u64
+    requires order { from ≤ to }
+    requires time { to ≤ LAST_TICK }
+    requires window { IsOwnWindow (own_ticks plan.now p) window.old }
+    ensures own { own_below (own_ticks plan.now p) from + result ≡ own_below (own_ticks plan.now p) to }
+    ensures window { IsOwnWindow (own_ticks plan.now p) window.new }
+{
+    plan.is_plan();
+    if to - from < u64::from(plan.frame()) {
+        return own_by_windows(plan, p, near, window, from, to);
+    }
+    let mut own = 0;
+    let mut tick = from;
+    for stage in 0..plan.stages() {
+        let begin = plan.begin_of(stage);
+        let stop = begin.ticks().min(to).max(tick);
+        let more = own_in_stage(plan, p, near, window, tick, stop);
+        own += more;
+        tick = stop;
+    }
+    let rest = own_in_stage(plan, p, near, window, tick, to);
+    own + rest
+}
+
+/// As `own_between`, where no stage begins between the two ticks: of the whole frames between them, each has the own
+/// ticks of the first.
+fn own_in_stage(
+    plan: &WindowPlan,
+    p: PartId,
+    near: &mut Near,
+    window: &mut OwnWindow,
+    from: u64,
+    to: u64,
+) -> u64
+    requires order { from ≤ to }
+    requires time { to ≤ LAST_TICK }
+    requires one { IsInOneStage plan.now from to }
+    requires window { IsOwnWindow (own_ticks plan.now p) window.old }
+    ensures own { own_below (own_ticks plan.now p) from + result ≡ own_below (own_ticks plan.now p) to }
+    ensures window { IsOwnWindow (own_ticks plan.now p) window.new }
+{
+    plan.is_plan();
+    let frame = u64::from(plan.frame());
+    let frames = (to - from) / frame;
+    if frames == 0 {
+        return own_by_windows(plan, p, near, window, from, to);
+    }
+    let next = from + frame;
+    let first = own_by_windows(plan, p, near, window, from, next);
+    let behind = from + frames * frame;
+    let rest = own_by_windows(plan, p, near, window, behind, to);
+    frames * first + rest
+}
+
+/// As `own_between`, from window to window.
+fn own_by_windows(
     plan: &WindowPlan,
     p: PartId,
     near: &mut Near,

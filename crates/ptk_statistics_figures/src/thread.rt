@@ -1,6 +1,6 @@
 //! The figures of a thread number.
 
-ghost use Rattle.std.specs.Prelude.{◌≡◌, ◌<◌, IfOk, Some, replicate};
+ghost use Rattle.std.specs.Prelude.{◌≡◌, ◌<◌, IfOk, None, Some, replicate};
 ghost use Rattle.ptk_words.specs.Calls.{number_of};
 ghost use Rattle.ptk_statistics_figures.specs.declared.thread.TheConstants.{NUMBERS};
 ghost use Rattle.ptk_statistics_figures.specs.Times.{capped_sum};
@@ -146,7 +146,8 @@ impl ThreadStatistics {
         }
     }
 
-    /// When the activation began that is under way, where it does this from a moment on.
+    /// When the activation began that is under way, where it does this from a moment on. None is under way where it is
+    /// not awake: a thread that gets the number later does not go on with it.
     #[inline(always)]
     fn woken_at_turn(&self, doing: Doing, at: Moment) -> Option<Moment>
         ensures { result ≡ woken_at_turn doing at self.now }
@@ -154,17 +155,21 @@ impl ThreadStatistics {
         if self.doing.is_wake(doing) {
             return Some(at);
         }
-        if self.doing.is_block(doing) {
-            None
-        } else {
-            self.woken
-        }
+        if doing.is_awake() { self.woken } else { None }
     }
 
-    /// The run ends.
-    pub fn finish(&mut self, at: Moment)
-        ensures { self.new ≡ record self.old { spans = spans_until at self.old } }
+    /// The activation that is under way, if one is, is not counted when it ends.
+    pub fn forget_waking(&mut self)
+        ensures { self.new ≡ record self.old { woken = None } }
     {
+        self.woken = None;
+    }
+
+    /// The run ends. A thread that is ready was so until then.
+    pub fn finish(&mut self, at: Moment)
+        ensures { self.new ≡ record self.old { spans = spans_until at self.old; dispatch = dispatch_at_turn Doing.Running at self.old } }
+    {
+        self.end_dispatch(Doing::Running, at);
         self.pass(at);
     }
 
@@ -273,7 +278,7 @@ impl ThreadStatistics {
         &self.activations
     }
 
-    /// The greatest time from ready to running.
+    /// The greatest time from ready to running, or to the run's end.
     pub fn dispatch(&self) -> Span
         ensures { result ≡ self.now.dispatch }
     {
