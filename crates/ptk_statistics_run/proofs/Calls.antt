@@ -84,7 +84,7 @@ seen_first world first booted begun = λ p default lt.
 -- behind a tick, by a partition's decision, if it makes one
 seen_decided : (is_same : Doing → Doing → Bool) (world : World) (p to : ℕ) (is_due : Bool) (before ahead after : PartStatistics)
     → (is_due ≡ false → state_of (at_tick (world.tick + 1) world) p ≡ state_of world p) → before.seen ≡ (state_of world p).account.steps
-    → MatchBool is_due (IsExpected world p before.observed ahead) (ahead ≡ record before { is_due = is_due_at world p })
+    → MatchBool is_due (IsExpected world p before.observed before.counted ahead) (ahead ≡ record before { is_due = is_due_at world p })
     → MatchBool is_due (IsDecided is_same (at_tick (world.tick + 1) world) p world.tick to ahead after) (after ≡ ahead)
     → after.seen ≡ (state_of (at_tick (world.tick + 1) world) p).account.steps
 seen_decided is_same world p to true before ahead after stays seen expected made =

@@ -19,7 +19,7 @@ use Rattle.ptk_statistics_figures.specs.declared.thread.CallCount.{CallCount}
 use Rattle.ptk_statistics_figures.specs.declared.thread.Pending.{Pending}
 use Rattle.ptk_statistics_figures.specs.declared.thread.ThreadStatistics.{ThreadStatistics}
 use Rattle.ptk_statistics_run.specs.Calls.{call_count, number_count}
-use Rattle.ptk_statistics_run.specs.Gathering.{AreMadeBy, AreSeen, at_step, at_step_end, behind_row, changed, does_the_same, finished, is_alone, is_preempted_behind, is_preemption, looked_at, seen, seen_apart, step_over, stepped, stepped_in, waiting_for, with_any_quiet_call, with_call_made, with_last, with_outcome, with_preemption, with_reply_at_wake, with_thread}
+use Rattle.ptk_statistics_run.specs.Gathering.{AreMadeBy, AreSeen, at_step, at_step_end, behind_row, changed, does_the_same, finished, is_alone, is_cut_off, is_preempted_behind, is_preemption, looked_at, seen, seen_apart, step_over, stepped, stepped_in, waiting_for, with_any_quiet_call, with_call_made, with_last, with_outcome, with_preemption, with_reply_at_wake, with_thread, without_waking}
 use Rattle.ptk_statistics_run.specs.Observations.{doing_of, has_halted, is_late_error, is_refused, is_reply_error, number_in, pc_behind, replied, with_reply, with_stack}
 
 -- ---- of one thread
@@ -97,6 +97,10 @@ preemption_counted : (c : ℕ → ℕ) (b : Bool) (thread : ThreadStatistics) �
 preemption_counted c true thread is = is
 preemption_counted c false thread is = is
 
+waking_counted : (c : ℕ → ℕ) (b : Bool) (thread : ThreadStatistics) → IsCounted c thread.calls → IsCounted c (without_waking b thread).calls
+waking_counted c true thread is = is
+waking_counted c false thread is = is
+
 changed_counted : (c : ℕ → ℕ) (activity : Activity) (t : ℕ) (s : Part) (at : Moment) (thread : ThreadStatistics) → IsCounted c thread.calls → IsCounted c (changed activity t s at thread).calls
 unfolding changed
 changed_counted c activity t s at thread is =
@@ -126,19 +130,20 @@ stack_counted : (c : ℕ → ℕ) (o : Option ℕ) (thread : ThreadStatistics) �
 stack_counted c None thread is = is
 stack_counted c (Some pointer) thread is = is
 
-step_ended_counted : (c : ℕ → ℕ) (activity : Activity) (call : Option ℕ) (at : Moment) (thread : ThreadStatistics) → IsCounted c thread.calls → IsCounted c (at_step_end activity call at thread).calls
-step_ended_counted c activity call at thread is =
+step_ended_counted : (c : ℕ → ℕ) (activity : Activity) (call : Option ℕ) (is_cut : Bool) (at : Moment) (thread : ThreadStatistics) → IsCounted c thread.calls → IsCounted c (at_step_end activity call is_cut at thread).calls
+step_ended_counted c activity call is_cut at thread is =
+    let preempted : ThreadStatistics = with_preemption (is_preempted_behind call (doing_of activity)) thread in
     either_counted c (is_running (doing_of activity)) thread
-    (waiting_for (mutex_of_activity activity) (turned (doing_of activity) at (with_preemption (is_preempted_behind call (doing_of activity)) thread)))
-    is (preemption_counted c (is_preempted_behind call (doing_of activity)) thread is)
+    (waiting_for (mutex_of_activity activity) (turned (doing_of activity) at (without_waking is_cut preempted)))
+    is (waking_counted c is_cut preempted (preemption_counted c (is_preempted_behind call (doing_of activity)) thread is))
 
-stepped_counted : (entry : Entry) (s : Part) (activity : Activity) (from to : Moment) (c : ℕ → ℕ) (thread : ThreadStatistics) → IsCounted c thread.calls
-    → IsCounted (with_number c (number_in entry s)) (stepped entry s activity from to thread).calls
+stepped_counted : (entry : Entry) (s : Part) (activity : Activity) (is_cut : Bool) (from to : Moment) (c : ℕ → ℕ) (thread : ThreadStatistics) → IsCounted c thread.calls
+    → IsCounted (with_number c (number_in entry s)) (stepped entry s activity is_cut from to thread).calls
 unfolding stepped
-stepped_counted entry s activity from to c thread is =
+stepped_counted entry s activity is_cut from to c thread is =
     let begun : ThreadStatistics = at_step entry from (waiting_for None thread) in
     let made : ThreadStatistics = with_call_made entry s (doing_of activity) (number_in entry s) begun in
-    step_ended_counted (with_number c (number_in entry s)) activity (number_in entry s) to (with_stack (register_in entry.thread SP s) made)
+    step_ended_counted (with_number c (number_in entry s)) activity (number_in entry s) is_cut to (with_stack (register_in entry.thread SP s) made)
     (stack_counted (with_number c (number_in entry s)) (register_in entry.thread SP s) made
     (call_made_counted c entry s (doing_of activity) (number_in entry s) begun (step_begun_counted c entry from (waiting_for None thread) is)))
 
@@ -234,7 +239,7 @@ seen_one_counted : (is_same : Doing → Doing → Bool) (world : World) (p : ℕ
 seen_one_counted is_same world p entry at to t c thread true e is =
     let s : Part = (state_of world p).part in
     recounted (with_number (c t) (number_in entry s)) (with_step c (Some entry) s t) (stepped_in world p entry at to thread).calls (λ place. own_step c entry s t place e)
-    (stepped_counted entry s (activity_in entry.thread s) at (step_over world p at to) (c t) thread is)
+    (stepped_counted entry s (activity_in entry.thread s) (is_cut_off world p at.tick to) at (step_over world p at to) (c t) thread is)
 seen_one_counted is_same world p entry at to t c thread false e is =
     let s : Part = (state_of world p).part in
     recounted (c t) (with_step c (Some entry) s t) (looked_at is_same s at t thread).calls (λ place. other_step c entry s t place e) (looked_counted is_same s at t (c t) thread is)
@@ -248,7 +253,7 @@ seen_step_counted is_same world p last entry at to before after c true positive 
     let same : after ≡ seen_apart is_same world p last entry at to before = so in
     subst (λ (threads : List ThreadStatistics). AreCounted (with_step c (Some entry) s) threads) (sym same)
     (one_step_counted c entry s (stepped_in world p entry at to) (with_last is_same s last entry.thread at before) positive (last_counted is_same s last entry.thread at c before are)
-    (λ d thread is. stepped_counted entry s (activity_in entry.thread s) at (step_over world p at to) d thread is))
+    (λ d thread is. stepped_counted entry s (activity_in entry.thread s) (is_cut_off world p at.tick to) at (step_over world p at to) d thread is))
 seen_step_counted is_same world p last entry at to before after c false positive are so =
     let made : AreMadeBy (seen is_same world p (Some entry) at to) THREAD_LIMIT before after = so in
     all_counted c (with_step c (Some entry) (state_of world p).part) (seen is_same world p (Some entry) at to) before after are made

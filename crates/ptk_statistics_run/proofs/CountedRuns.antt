@@ -237,11 +237,11 @@ undue_counted states n threads same are =
 -- a partition's decision at the system's tick, if it makes one
 counted_decided : (is_same : Doing → Doing → Bool) (world : World) (p to : ℕ) (is_due : Bool) (before ahead after : PartStatistics) → p < length world.config.sections → world ≡ at_tick world.tick world
     → (is_due ≡ false → state_of (at_tick (world.tick + 1) world) p ≡ state_of world p)
-    → MatchBool is_due (IsExpected world p before.observed ahead) (ahead ≡ record before { is_due = is_due_at world p })
+    → MatchBool is_due (IsExpected world p before.observed before.counted ahead) (ahead ≡ record before { is_due = is_due_at world p })
     → MatchBool is_due (IsDecided is_same (at_tick (world.tick + 1) world) p world.tick to ahead after) (after ≡ ahead)
     → AreCounted (below (states_of world p) world.tick) before.observed.threads.items → AreCounted (below (states_of world p) (suc world.tick)) after.observed.threads.items
 counted_decided is_same world p to true before ahead after lt alone stays expects made are =
-    let coming : IsExpected world p before.observed ahead = expects in
+    let coming : IsExpected world p before.observed before.counted ahead = expects in
     let decided : IsDecided is_same (at_tick (world.tick + 1) world) p world.tick to ahead after = made in
     let goes : (k : ℕ) → IsOneTick k (states_of world p k) (states_of world p (suc k)) = λ k. one_tick world p k lt in
     let here : state_of (at_tick (world.tick + 1) world) p ≡ states_of world p (suc world.tick) = ap (λ (k : ℕ). state_of (at_tick k world) p) (add-one world.tick) in

@@ -4,6 +4,7 @@ use Rattle.std.specs.Prelude.{fold, nat_le, nat_lt, ◌==◌, ◌&&◌, if◌the
 use Rattle.std.proofs.lemmas.Bool.{cases_lt, cond_both, le-ltb, lt-ltb, ne_eqb}
 use Rattle.ptk_words.specs.Image.{ImageParts, image_of}
 use Rattle.ptk_words.specs.declared.faults.ImageFault.{ImageFault}
+use Rattle.ptk_words.specs.declared.faults.Status.{Status}
 use Rattle.ptk_words.specs.declared.sections.Arrival.{Arrival}
 use Rattle.ptk_words.specs.declared.sections.Entry.{Entry}
 use Rattle.ptk_words.specs.declared.sections.Limits.{Limits}
@@ -29,59 +30,69 @@ use Rattle.ptk_statistics_run.specs.Observations.{step_at}
 
 -- ---- before the turn
 
-either_last : (b : Bool) (x y : Part) (last : Option Entry) → x.last ≡ last → y.last ≡ last → (cond b x y).last ≡ last
-either_last true x y last one other = one
-either_last false x y last one other = other
+-- the last step, and what became of the partition
+abbrev kept : Part → Option Entry × Status
+kept s = (s.last, s.status)
 
-arrival_last : (o : Option ℕ) (limit byte : ℕ) (s : Part) → (after_arrival_for o limit byte s).last ≡ s.last
-arrival_last None limit byte s = refl
-arrival_last (Some t) limit byte s = refl
+either_same : {X : Type 0} (f : Part → X) (b : Bool) (x y : Part) (value : X) → f x ≡ value → f y ≡ value → f (cond b x y) ≡ value
+either_same f true x y value one other = one
+either_same f false x y value one other = other
 
-arrivals_last : (limit : ℕ) (arrivals : List Arrival) (s : Part) → (fold (after_arrival limit) s arrivals).last ≡ s.last
-arrivals_last limit [] s = refl
-arrivals_last limit (arrival ∷ arrivals) s = arrivals_last limit arrivals (after_arrival limit s arrival) ∙ arrival_last (first_waiter s) limit arrival.byte s
+arrival_kept : (o : Option ℕ) (limit byte : ℕ) (s : Part) → kept (after_arrival_for o limit byte s) ≡ kept s
+arrival_kept None limit byte s = refl
+arrival_kept (Some t) limit byte s = refl
 
-timeout_last : (t : ℕ) (wait : Option Wait) (s : Part) → (after_timeout t wait s).last ≡ s.last
-timeout_last t None s = refl
-timeout_last t (Some InputWait) s = refl
-timeout_last t (Some (SleepWait deadline)) s = refl
-timeout_last t (Some (JoinWait u)) s = refl
-timeout_last t (Some (MutexWait m deadline)) s = refl
-timeout_last t (Some (ConditionWait c m deadline)) s = refl
-timeout_last t (Some (RelockWait m reply)) s = refl
+arrivals_kept : (limit : ℕ) (arrivals : List Arrival) (s : Part) → kept (fold (after_arrival limit) s arrivals) ≡ kept s
+arrivals_kept limit [] s = refl
+arrivals_kept limit (arrival ∷ arrivals) s = arrivals_kept limit arrivals (after_arrival limit s arrival) ∙ arrival_kept (first_waiter s) limit arrival.byte s
+
+timeout_kept : (t : ℕ) (wait : Option Wait) (s : Part) → kept (after_timeout t wait s) ≡ kept s
+timeout_kept t None s = refl
+timeout_kept t (Some InputWait) s = refl
+timeout_kept t (Some (SleepWait deadline)) s = refl
+timeout_kept t (Some (JoinWait u)) s = refl
+timeout_kept t (Some (MutexWait m deadline)) s = refl
+timeout_kept t (Some (ConditionWait c m deadline)) s = refl
+timeout_kept t (Some (RelockWait m reply)) s = refl
 
 -- the state after one expiry
 abbrev expired : Part → Expiry → Part
 expired s a = after_timeout a.thread (wait_of (thread_at s.locks a.thread)) s
 
-expiries_last : (expiries : List Expiry) (s : Part) → (fold expired s expiries).last ≡ s.last
-expiries_last [] s = refl
-expiries_last (a ∷ expiries) s = expiries_last expiries (expired s a) ∙ timeout_last a.thread (wait_of (thread_at s.locks a.thread)) s
+expiries_kept : (expiries : List Expiry) (s : Part) → kept (fold expired s expiries) ≡ kept s
+expiries_kept [] s = refl
+expiries_kept (a ∷ expiries) s = expiries_kept expiries (expired s a) ∙ timeout_kept a.thread (wait_of (thread_at s.locks a.thread)) s
 
-choice_last : (running first : Option ℕ) (s : Part) → (after_choice_between running first s).last ≡ s.last
-choice_last None None s = refl
-choice_last (Some r) None s = refl
-choice_last None (Some t) s = refl
-choice_last (Some r) (Some t) s =
-    either_last (nat_lt (effective_priority s.locks r) (effective_priority s.locks t)) (after_dispatch t (with_locks (at_head r) s)) s s.last refl refl
+choice_kept : (running first : Option ℕ) (s : Part) → kept (after_choice_between running first s) ≡ kept s
+choice_kept None None s = refl
+choice_kept (Some r) None s = refl
+choice_kept None (Some t) s = refl
+choice_kept (Some r) (Some t) s =
+    either_same kept (nat_lt (effective_priority s.locks r) (effective_priority s.locks t)) (after_dispatch t (with_locks (at_head r) s)) s (kept s) refl refl
 
--- arrivals, expiries and the choice leave the last step
-ready_last : (limits : Limits) (tick : ℕ) (s : Part) → (ready_at limits tick s).last ≡ s.last
-ready_last limits tick s =
+-- arrivals, expiries and the choice leave both
+ready_kept : (limits : Limits) (tick : ℕ) (s : Part) → kept (ready_at limits tick s) ≡ kept s
+ready_kept limits tick s =
     let arrived : Part = after_arrivals limits tick s in
     let expired_by : Part = after_expiries tick arrived in
-    choice_last expired_by.running (first_ready expired_by.locks) expired_by
-    ∙ (expiries_last (in_order (due tick arrived)) arrived
-    ∙ arrivals_last limits.ring (arriving tick s.console) (with_console (without_arriving tick) s))
+    choice_kept expired_by.running (first_ready expired_by.locks) expired_by
+    ∙ (expiries_kept (in_order (due tick arrived)) arrived
+    ∙ arrivals_kept limits.ring (arriving tick s.console) (with_console (without_arriving tick) s))
+
+ready_last : (limits : Limits) (tick : ℕ) (s : Part) → (ready_at limits tick s).last ≡ s.last
+ready_last limits tick s = ap (λ (it : Option Entry × Status). it.0) (ready_kept limits tick s)
+
+pub ready_status : (limits : Limits) (tick : ℕ) (s : Part) → (ready_at limits tick s).status ≡ s.status
+ready_status limits tick s = ap (λ (it : Option Entry × Status). it.1) (ready_kept limits tick s)
 
 -- ---- the turn
 
 interval_last : (interval cost t : ℕ) (o : Option Thread) (s : Part) → (after_interval interval cost t o s).last ≡ s.last
 interval_last interval cost t None s = refl
 interval_last interval cost t (Some thread) s =
-    either_last (is_running t s.running && is_round_robin thread.policy)
+    either_same (λ (it : Part). it.last) (is_running t s.running && is_round_robin thread.policy)
     (if nat_le interval (thread.used + cost) then after_turn_end t s else with_thread_used t (thread.used + cost) s) s s.last
-    (either_last (nat_le interval (thread.used + cost)) (after_turn_end t s) (with_thread_used t (thread.used + cost) s) s.last refl refl) refl
+    (either_same (λ (it : Part). it.last) (nat_le interval (thread.used + cost)) (after_turn_end t s) (with_thread_used t (thread.used + cost) s) s.last refl refl) refl
 
 -- a tick makes no step, and the last one stays; or it makes one more, which is the last one then
 pub data IsOneTick (tick : ℕ) (old new : State) : Type 0 where
@@ -151,7 +162,7 @@ none_first world p lt =
 
 -- ---- a step that was made
 
-some_same : (a b : Entry) → Some a ≡ Some b → a ≡ b
+pub some_same : (a b : Entry) → Some a ≡ Some b → a ≡ b
 some_same a b e = ap (λ (o : Option Entry). unwrap_or o a) e
 
 no_some : (o : Option Entry) (entry : Entry) → o ≡ None → o ≡ Some entry → ⊥

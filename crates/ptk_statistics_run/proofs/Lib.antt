@@ -7,4 +7,9 @@ pub mod Calls
 pub mod LastSteps
 pub mod CountedCalls
 pub mod CountedRuns
+pub mod Turns
+pub mod Uses
+pub mod UsesOver
+pub mod StepsOver
+pub mod CountedTicks
 pub use Rattle.ptk_main_runs.proofs.Sent

@@ -1,14 +1,17 @@
 -- How a count goes on adding up with the system.
-use Rattle.std.proofs.Common.{◌≡◌, ℕ, ◌≤◌, ◌<◌, length, sym, ap, subst, ◌∙◌, arith}
+use Rattle.std.proofs.Common.{◌≡◌, ℕ, ◌≤◌, ◌<◌, Bool, Option, length, sym, ap, subst, ◌∙◌, arith}
 use Rattle.ptk_words.specs.declared.TheConstants.{LAST_TICK}
 use Rattle.ptk_words_windows.specs.Windows.{OwnTicks, own_ticks}
 use Rattle.ptk_words_model.specs.State.{State}
+use Rattle.ptk_main_runs.specs.Told.{is_halted, status_in}
 use Rattle.ptk_main_runs.specs.World.{World, at_tick, state_of}
 use Rattle.ptk_main_runs.proofs.Keeping.{alone_at}
 use Rattle.ptk_statistics_figures.specs.declared.counted.Counted.{Counted}
+use Rattle.ptk_statistics_figures.specs.declared.counted.Seen.{Seen}
 use Rattle.ptk_statistics_figures.specs.Own.{own_below}
 use Rattle.ptk_statistics_figures.specs.Counts.{Adds, lost_in, reached, steps_in}
-use Rattle.ptk_statistics_run.specs.Sums.{AddsUp, Agrees}
+use Rattle.ptk_statistics_run.specs.Observations.{place_of_last}
+use Rattle.ptk_statistics_run.specs.Sums.{AddsUp, Agrees, shown_in}
 use Rattle.ptk_statistics_run.proofs.Growing.{Grows, grown}
 
 -- a system that stands at its own tick
@@ -64,3 +67,13 @@ agrees world p c alone at is =
       lost = is.lost ∙ ap (λ (s : State). s.account.lost) same;
       ticks = is.adds.ticks ∙ ap (own_below (own_ticks world.config.plan p)) at;
     }
+
+-- what is read of a partition, one thing after the other, is what the system shows of it
+pub shown_by : (s : State) (steps lost place : ℕ) (next : Option ℕ) (halted : Bool) → steps ≡ s.account.steps → lost ≡ s.account.lost → place ≡ place_of_last s.part.last → next ≡ s.account.next
+    → halted ≡ is_halted (status_in s.part) → ◌≡◌ {A = Seen} (record { steps = steps; lost = lost; place = place; next = next; is_halted = halted }) (shown_in s)
+shown_by s steps lost place next halted made gone of later halts =
+    ap {B = Seen} (λ (n : ℕ). record { steps = n; lost = lost; place = place; next = next; is_halted = halted }) made
+    ∙ (ap {B = Seen} (λ (n : ℕ). record { steps = s.account.steps; lost = n; place = place; next = next; is_halted = halted }) gone
+    ∙ (ap {B = Seen} (λ (n : ℕ). record { steps = s.account.steps; lost = s.account.lost; place = n; next = next; is_halted = halted }) of
+    ∙ (ap {B = Seen} (λ (o : Option ℕ). record { steps = s.account.steps; lost = s.account.lost; place = place_of_last s.part.last; next = o; is_halted = halted }) later
+    ∙ ap {B = Seen} (λ (b : Bool). record { steps = s.account.steps; lost = s.account.lost; place = place_of_last s.part.last; next = s.account.next; is_halted = b }) halts)))

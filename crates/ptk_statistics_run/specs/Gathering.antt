@@ -17,7 +17,7 @@ use Rattle.ptk_main_runs.specs.Told.{register_in}
 use Rattle.ptk_main_runs.specs.World.{World, state_of}
 use Rattle.ptk_statistics_figures.specs.Doings.{is_blocked, is_ready, is_running}
 use Rattle.ptk_statistics_figures.specs.Mutexes.{new_mutex, owned_from, waited_from}
-use Rattle.ptk_statistics_figures.specs.Threads.{new_thread, spans_until, turned, with_call, with_refusal}
+use Rattle.ptk_statistics_figures.specs.Threads.{dispatch_at_turn, new_thread, spans_until, turned, with_call, with_refusal}
 use Rattle.ptk_statistics_figures.specs.Times.{capped_sum, moment_after, time_between}
 use Rattle.ptk_statistics_figures.specs.declared.doing.Doing.{Doing}
 use Rattle.ptk_statistics_figures.specs.declared.doing.Doing.TheVariants as doings
@@ -91,7 +91,11 @@ window_end world p tick = unwrap_or ((own_ticks world.config.plan p).end_at tick
 abbrev pub step_ticks : World → ℕ → Tick → Tick → ℕ
 step_ticks world p tick to = min (step_end tick (window_end world p tick) (state_of world p)) to - tick
 
--- the moment at which the step ends that began at a moment (own)
+-- the step that began at a tick ends behind another tick, up to which the run goes (own)
+abbrev pub is_cut_off : World → ℕ → Tick → Tick → Bool
+is_cut_off world p tick to = nat_lt to (step_end tick (window_end world p tick) (state_of world p))
+
+-- the moment at which the step ends that began at a moment, the run's end where it is cut off there (own)
 abbrev pub step_over : World → ℕ → Moment → Tick → Moment
 step_over world p at to = moment_after (step_ticks world p at.tick to) at
 
@@ -121,23 +125,28 @@ with_call_made entry s kind (Some number) thread = with_outcome entry s kind num
 abbrev pub is_preempted_behind : Option ℕ → Doing → Bool
 is_preempted_behind call kind = is_ready kind && not (option_eq nat_eq call (Some (number_of SchedYield)))
 
--- where its step ends, at a moment, it does this: it runs on, or does something else from then on (own)
-abbrev pub at_step_end : Activity → Option ℕ → Moment → ThreadStatistics → ThreadStatistics
-at_step_end activity call at thread =
+-- the activation that is under way is not counted where its last step is cut off: it has not ended (own)
+abbrev pub without_waking : Bool → ThreadStatistics → ThreadStatistics
+without_waking true thread = record thread { woken = None }
+without_waking false thread = thread
+
+-- where its step ends or is cut off, at a moment, it does this: it runs on, or does something else from then on (own)
+abbrev pub at_step_end : Activity → Option ℕ → Bool → Moment → ThreadStatistics → ThreadStatistics
+at_step_end activity call is_cut at thread =
     if is_running (doing_of activity)
     then thread
-    else waiting_for (mutex_of_activity activity) (turned (doing_of activity) at (with_preemption (is_preempted_behind call (doing_of activity)) thread))
+    else waiting_for (mutex_of_activity activity) (turned (doing_of activity) at (without_waking is_cut (with_preemption (is_preempted_behind call (doing_of activity)) thread)))
 
--- the figures of a thread that makes a step from a moment to another and then does this (own)
-unfoldable pub stepped : Entry → Part → Activity → Moment → Moment → ThreadStatistics → ThreadStatistics
-stepped entry s activity from to thread =
-    at_step_end activity (number_in entry s) to
+-- the figures of a thread that makes a step from a moment to another, at which it ends or is cut off, and then does this (own)
+unfoldable pub stepped : Entry → Part → Activity → Bool → Moment → Moment → ThreadStatistics → ThreadStatistics
+stepped entry s activity is_cut from to thread =
+    at_step_end activity (number_in entry s) is_cut to
     (with_stack (register_in entry.thread SP s) (with_call_made entry s (doing_of activity) (number_in entry s) (at_step entry from (waiting_for None thread))))
 
 -- the figures of the thread that made the step of a partition's decision at a moment, in a run up to a tick (own)
 abbrev pub stepped_in : World → ℕ → Entry → Moment → Tick → ThreadStatistics → ThreadStatistics
 stepped_in world p entry at to thread =
-    stepped entry (state_of world p).part (activity_in entry.thread (state_of world p).part) at (step_over world p at to) thread
+    stepped entry (state_of world p).part (activity_in entry.thread (state_of world p).part) (is_cut_off world p at.tick to) at (step_over world p at to) thread
 
 -- ---- all threads
 
@@ -174,9 +183,9 @@ AreMadeBy {A} f greatest before after =
 abbrev pub begun : Activity → ThreadStatistics → ThreadStatistics
 begun activity thread = record thread { doing = doing_of activity }
 
--- where the run ends, at a moment: what it did so far it did until then, and it waits for nothing any more (own)
+-- where the run ends, at a moment: what it did so far it did until then, it was ready until then if it is, and it waits for nothing any more (own)
 abbrev pub finished : Moment → ThreadStatistics → ThreadStatistics
-finished at thread = waiting_for None (record thread { spans = spans_until at thread })
+finished at thread = waiting_for None (record thread { spans = spans_until at thread; dispatch = dispatch_at_turn doings.Running at thread })
 
 -- where the run ends, at a moment, the time for which it was owned ends (own)
 abbrev pub owned_until : Moment → MutexStatistics → MutexStatistics

@@ -4,6 +4,7 @@ pub mod Observations
 pub mod Gathering
 pub mod Stretches
 pub mod Calls
+pub mod Uses
 pub use Rattle.ptk_main_runs.specs.Members
 pub use Rattle.ptk_main_runs.specs.Missing
 pub use Rattle.ptk_main_runs.specs.PartStatus

@@ -22,7 +22,7 @@ use Rattle.ptk_statistics_run.specs.declared.observed.Observed.{Observed}
 use Rattle.ptk_statistics_run.specs.declared.observed.OwnerCall.{OwnerCall}
 use Rattle.ptk_statistics_run.specs.declared.observed.TheConstants.{MUTEX_LIMIT}
 use Rattle.ptk_statistics_run.specs.Gathering.{AreMadeBy, AreOwnedUntil, IsSeen, call_of_row, expected, finished, last_of_row, threads_behind_row, with_owner}
-use Rattle.ptk_statistics_run.specs.Sums.{AddsUp, Agrees}
+use Rattle.ptk_statistics_run.specs.Sums.{AddsUp, Agrees, IsCountedOn, IsCountedUp}
 
 -- a decision that is looked at is at a tick of a run
 abbrev pub IsBefore : Sight → Type 0
@@ -63,17 +63,20 @@ abbrev pub moment_at : Tick → Counted → Moment
 moment_at tick counted = record { own = counted_ticks counted; tick = tick }
 
 -- ahead of a partition's decision at the system's tick: whether something comes from outside with it, and each own tick below it is counted (own)
-pub record IsExpected (world : World) (p : ℕ) (before : Observed) (after : PartStatistics) : Type 0 where
+pub record IsExpected (world : World) (p : ℕ) (before : Observed) (counted : Counted) (after : PartStatistics) : Type 0 where
   pub observed : after.observed ≡ expected world p before
+  pub counts : IsCountedUp world p counted after.counted
+  pub reached : reached after.counted ≡ world.tick
   pub own : counted_ticks after.counted ≡ own_below (own_ticks world.config.plan p) world.tick
 
 -- ahead of a tick: what is expected of the partition's decision, if it makes one; else all is as it was (own)
 abbrev pub IsExpectedIfDue : World → ℕ → PartStatistics → PartStatistics → Type 0
-IsExpectedIfDue world p before after = MatchBool (is_due_at world p) (IsExpected world p before.observed after) (after ≡ record before { is_due = is_due_at world p })
+IsExpectedIfDue world p before after = MatchBool (is_due_at world p) (IsExpected world p before.observed before.counted after) (after ≡ record before { is_due = is_due_at world p })
 
 -- behind a partition's decision at a tick: what is seen of it, and all is counted up to the system's tick (own)
 pub record IsDecided (is_same : Doing → Doing → Bool) (world : World) (p : ℕ) (tick to : Tick) (before after : PartStatistics) : Type 0 where
   pub observed : IsSeen is_same world p (moment_at tick before.counted) to before.observed after.observed
+  pub counts : IsCountedOn world p before.counted after.counted
   pub counted : reached after.counted ≡ world.tick
   pub seen : after.seen ≡ (state_of world p).account.steps
 
@@ -121,14 +124,16 @@ pub record IsBehindRows (world : World) (p : ℕ) (before after : PartStatistics
   pub threads : after.observed.threads.items ≡ threads_behind_rows world p before
   pub mutexes : AreOwnersBehindRows world p before after.observed.mutexes.items
   pub last : after.observed.last ≡ last_behind_rows world p before
+  pub counts : IsCountedUp world p before.counted after.counted
   pub seen : after.seen ≡ (state_of world p).account.steps
 
 -- the moment at the system's tick, by the partition's own ticks below it (own)
 abbrev pub moment_now : World → ℕ → Moment
 moment_now world p = record { own = own_below (own_ticks world.config.plan p) world.tick; tick = world.tick }
 
--- where the run ends, at the system's tick: what the threads did so far they did until then, and whoever owned a mutex owned it until then (own)
+-- where the run ends, at the system's tick: all is counted up to there, what the threads did so far they did until then, and whoever owned a mutex owned it until then (own)
 pub record IsFinished (world : World) (p : ℕ) (before after : PartStatistics) : Type 0 where
+  pub counts : IsCountedOn world p before.counted after.counted
   pub threads : AreMadeBy (λ t. finished (moment_now world p)) THREAD_LIMIT before.observed.threads.items after.observed.threads.items
   pub mutexes : AreOwnedUntil (moment_now world p) before.observed.threads.items before.observed.mutexes.items after.observed.mutexes.items
 

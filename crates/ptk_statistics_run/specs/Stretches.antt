@@ -5,7 +5,7 @@ use Rattle.ptk_words.specs.declared.TheConstants.{ECALL}
 use Rattle.ptk_words.specs.declared.sections.Entry.{Entry}
 use Rattle.ptk_main_runs.specs.Going.{GoesOnAsIs, StaysBehindCall}
 use Rattle.ptk_main_runs.specs.World.{World, at_tick, but_next, section_at, state_of}
-use Rattle.ptk_statistics_figures.specs.Counts.{reached}
+use Rattle.ptk_statistics_figures.specs.Counts.{counts_of, reached}
 use Rattle.ptk_statistics_figures.specs.Times.{capped_sum}
 use Rattle.ptk_statistics_figures.specs.declared.doing.Doing.{Doing}
 use Rattle.ptk_statistics_run.specs.declared.part.PartStatistics.{PartStatistics}
@@ -13,6 +13,7 @@ use Rattle.ptk_statistics_run.specs.declared.part.Sight.TheVariants.{Coming, Dec
 use Rattle.ptk_statistics_run.specs.declared.statistics.Statistics.{Statistics}
 use Rattle.ptk_statistics_run.specs.Gathering.{IsFirst}
 use Rattle.ptk_statistics_run.specs.Parts.{AreBehindRows, AreFinished, AreSeenBy, is_due_in}
+use Rattle.ptk_statistics_run.specs.Sums.{first_counts}
 
 -- ---- who decides at a tick
 
@@ -94,6 +95,7 @@ pub data AreGathered (is_same : Doing → Doing → Bool) (to : Tick) (world : W
 pub record IsFirstOf (world : World) (p : ℕ) (part : PartStatistics) : Type 0 where
   pub observed : IsFirst (state_of world p).part (section_at world.config p).limits.threads (section_at world.config p).limits.mutexes part.observed
   pub tick : reached part.counted ≡ 0
+  pub counts : counts_of part.counted ≡ first_counts (state_of world p)
   pub seen : part.seen ≡ 0
 
 -- so of each partition (own)

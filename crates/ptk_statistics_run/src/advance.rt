@@ -3,9 +3,9 @@
 ghost use Rattle.std.specs.Prelude.{◌≡◌, ◌<◌, ◌≤◌, length};
 ghost use Rattle.ptk_words.specs.declared.TheConstants.{LAST_TICK, THREAD_LIMIT};
 ghost use Rattle.ptk_main_runs.specs.World.{state_of};
-ghost use Rattle.ptk_statistics_figures.specs.Counts.{reached, steps_in};
+ghost use Rattle.ptk_statistics_figures.specs.Counts.{counts_of, reached, steps_in};
 ghost use Rattle.ptk_statistics_run.specs.Observations.{place_of_last};
-ghost use Rattle.ptk_statistics_run.specs.Sums.{AddsUp};
+ghost use Rattle.ptk_statistics_run.specs.Sums.{AddsUp, IsCountedOn, first_counts};
 
 use ptk_main_runs::System;
 use ptk_statistics_figures::{Counted, Seen};
@@ -16,6 +16,7 @@ pub(crate) fn first_count(system: &System<'_>, p: PartId) -> Counted
     requires partition { p < length system.now.config.sections }
     ensures tick { reached result ≡ 0 }
     ensures adds { AddsUp system.now p result }
+    ensures counts { counts_of result ≡ first_counts (state_of system.now p) }
 {
     let near = system.config().plan().first_near();
     Counted::new(system.next(p), system.status(p).is_halted(), near)
@@ -31,6 +32,7 @@ pub(crate) fn advance(counted: &mut Counted, system: &System<'_>, p: PartId)
     ensures tick { reached counted.new ≡ system.now.tick }
     ensures steps { steps_in counted.new ≡ (state_of system.now p).account.steps }
     ensures adds { AddsUp system.now p counted.new }
+    ensures counts { IsCountedOn system.now p counted.old counted.new }
 {
     system.states_are_alone();
     let config = system.config();

@@ -3,6 +3,7 @@
 ghost use Rattle.std.specs.Prelude.{Bool};
 ghost use Rattle.ptk_statistics_figures.specs.declared.doing.Doing.{Doing};
 ghost use Rattle.ptk_statistics_run.specs.Calls.{FiguresCountCalls, RowsCountCalls, StretchesSeeSteps};
+ghost use Rattle.ptk_statistics_run.specs.Uses.{FiguresCountTicks};
 
 /// Behind each stretch of a run every step was looked at. So a row counts each call that is made in it, once: the call
 /// is the last step of its partition there.
@@ -15,4 +16,11 @@ pub fn rows_count_calls()
 /// many as there are steps of the run up to its last tick that are that call.
 pub fn figures_count_calls()
     ensures { (is_same : Doing → Doing → Bool) → FiguresCountCalls is_same }
+{}
+
+/// Each own tick in the figures of a run counts as what became of it by the states of its partition: a step took it,
+/// nothing was to be done, it was lost, or it was after the halt. And the steps in the figures are those of the threads
+/// that made them, for each number of a thread.
+pub fn figures_count_ticks()
+    ensures { (is_same : Doing → Doing → Bool) → FiguresCountTicks is_same }
 {}

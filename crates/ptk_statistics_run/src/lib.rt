@@ -12,6 +12,9 @@
 //! - Behind each stretch every step was looked at (`rows_count_calls`: `seen`). So a row has one call of a partition at
 //!   most, which is its last step there, and counts it (`calls`: `AreCallsCounted`). The calls in the figures of a run
 //!   are those that its threads made, as many of each as there are such steps (`figures_count_calls`: `calls_below`).
+//! - Each own tick counts as what became of it: used by a step, idle, lost, or after the halt; and each step counts for
+//!   the thread that made it (`figures_count_ticks`: `uses_below`, `steps_below`). So the lost ticks that lie ahead are
+//!   those that the system counts more.
 //! - What a thread does, which step a decision began, and which call that step is are the definitions' (`doing_of`,
 //!   `step_at`, `number_in`). So is what a decision leaves of the figures of a thread that makes a step (`stepped`) and
 //!   of one that makes none (`looked_at`), and of those of the mutexes, with the waits that end and the owners that are
@@ -19,9 +22,9 @@
 //!   (`is_disturbed_by`).
 //!
 //! The run goes on by single decisions where a call or a change may come, by rows of plain steps between, and over
-//! ticks at which nothing is due at once. Which own tick was used, idle or after the halt, how many lost ticks lie ahead
-//! and whose the steps are is tested. Below are the figures of one partition (`ptk_statistics_figures`) and whole runs
-//! (`ptk_main_runs`); above is what the program answers to `stats` (`ptk_statistics`). No clause is costly to prove.
+//! ticks at which nothing is due at once. Below are the figures of one partition (`ptk_statistics_figures`) and whole
+//! runs (`ptk_main_runs`); above is what the program answers to `stats` (`ptk_statistics`). No clause is costly to
+//! prove.
 
 mod advance;
 mod doing;
@@ -34,7 +37,7 @@ mod statistics;
 mod thread;
 mod waits;
 
-pub use laws::{figures_count_calls, rows_count_calls};
+pub use laws::{figures_count_calls, figures_count_ticks, rows_count_calls};
 pub use part::PartStatistics;
 pub use ptk_main_runs::{
     BootFault, Files, PartStatus, PutFault, RunFault, System, Value, part_named, put_members,

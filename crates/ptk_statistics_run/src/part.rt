@@ -2,10 +2,11 @@
 
 ghost use Rattle.std.specs.Prelude.{◌≡◌, ◌<◌, ◌≤◌, IfOk, MatchBool, Some, length};
 ghost use Rattle.ptk_words.specs.declared.TheConstants.{LAST_TICK};
-ghost use Rattle.ptk_statistics_figures.specs.Counts.{reached};
+ghost use Rattle.ptk_statistics_figures.specs.Counts.{counts_of, reached};
 ghost use Rattle.ptk_main_runs.specs.World.{state_of};
 ghost use Rattle.ptk_statistics_run.specs.Gathering.{IsFirst, call_of_row, last_of_row, threads_behind_row};
 ghost use Rattle.ptk_statistics_run.specs.Parts.{AreOwnersBehind, AreOwnersBehindRows, IsBefore, IsDecided, IsExpected, IsExpectedIfDue, IsFinished, IsKept, IsSeenBy, IsSeenIfDue, is_due_at, last_behind_rows, threads_behind_rows};
+ghost use Rattle.ptk_statistics_run.specs.Sums.{IsCountedOn, IsCountedUp, first_counts};
 
 use crate::advance::{advance, first_count};
 use crate::due::is_due;
@@ -50,6 +51,7 @@ impl PartStatistics {
         ensures first { IfOk result (λ part. IsFirst (state_of system.now p).part threads mutexes part.observed) }
         ensures tick { IfOk result (λ part. reached part.counted ≡ 0) }
         ensures seen { IfOk result (λ part. part.seen ≡ 0) }
+        ensures counts { IfOk result (λ part. counts_of part.counted ≡ first_counts (state_of system.now p)) }
     {
         let observed = Observed::new(alloc, system, p, threads, mutexes)?;
         Ok(PartStatistics {
@@ -96,7 +98,7 @@ impl PartStatistics {
         requires kept { IsKept system.now p self.old }
         ensures kept { IsKept system.now p self.new }
         ensures due { self.new.is_due ≡ self.old.is_due }
-        ensures expected { MatchBool self.old.is_due (IsExpected system.now p self.old.observed self.new) (self.new ≡ self.old) }
+        ensures expected { MatchBool self.old.is_due (IsExpected system.now p self.old.observed self.old.counted self.new) (self.new ≡ self.old) }
     {
         if self.is_due {
             self.expect(system, p);
@@ -110,7 +112,7 @@ impl PartStatistics {
         requires kept { IsKept system.now p self.old }
         ensures kept { IsKept system.now p self.new }
         ensures due { self.new.is_due ≡ self.old.is_due }
-        ensures expected { IsExpected system.now p self.old.observed self.new }
+        ensures expected { IsExpected system.now p self.old.observed self.old.counted self.new }
     {
         self.observed.look_ahead(system, p);
         self.count_on(system, p);
@@ -124,6 +126,7 @@ impl PartStatistics {
         requires kept { IsKept system.now p self.old }
         ensures kept { IsKept system.now p self.new }
         ensures tick { reached self.new.counted ≡ system.now.tick }
+        ensures counts { IsCountedUp system.now p self.old.counted self.new.counted }
         ensures same { self.new ≡ record self.old { counted = self.new.counted; seen = self.new.seen } }
     {
         if system.tick().ticks() <= self.counted.tick() {
@@ -171,6 +174,7 @@ impl PartStatistics {
         ensures threads { self.new.observed.threads.items ≡ threads_behind_rows system.now p self.old }
         ensures mutexes { AreOwnersBehindRows system.now p self.old self.new.observed.mutexes.items }
         ensures last { self.new.observed.last ≡ last_behind_rows system.now p self.old }
+        ensures counts { IsCountedUp system.now p self.old.counted self.new.counted }
         ensures seen { self.new.seen ≡ (state_of system.now p).account.steps }
     {
         let steps = system.steps(p);
@@ -192,6 +196,7 @@ impl PartStatistics {
         ensures mutexes { AreOwnersBehind system.now p (call_of_row (state_of system.now p).part.last (state_of system.now p).part self.old.observed.threads.items)
             self.old.observed.mutexes.items self.new.observed.mutexes.items }
         ensures last { self.new.observed.last ≡ last_of_row (state_of system.now p).part.last self.old.observed.threads.items self.old.observed.last }
+        ensures counts { IsCountedUp system.now p self.old.counted self.new.counted }
     {
         let call = self.observed.look_at_row(system, p);
         self.look_behind_call(system, p, &call);
@@ -207,6 +212,7 @@ impl PartStatistics {
         ensures threads { self.new.observed.threads ≡ self.old.observed.threads }
         ensures mutexes { AreOwnersBehind system.now p call.now self.old.observed.mutexes.items self.new.observed.mutexes.items }
         ensures last { self.new.observed.last ≡ self.old.observed.last }
+        ensures counts { IsCountedUp system.now p self.old.counted self.new.counted }
     {
         if let Some(call) = call {
             self.look_at_owners(system, p, *call);
@@ -223,6 +229,7 @@ impl PartStatistics {
         ensures threads { self.new.observed.threads ≡ self.old.observed.threads }
         ensures mutexes { AreOwnersBehind system.now p (Some call) self.old.observed.mutexes.items self.new.observed.mutexes.items }
         ensures last { self.new.observed.last ≡ self.old.observed.last }
+        ensures counts { IsCountedOn system.now p self.old.counted self.new.counted }
     {
         self.count(system, p);
         let own = self.counted.own().saturating_sub(call.cost);
@@ -240,6 +247,7 @@ impl PartStatistics {
         ensures kept { IsKept system.now p self.new }
         ensures tick { reached self.new.counted ≡ system.now.tick }
         ensures seen { self.new.seen ≡ (state_of system.now p).account.steps }
+        ensures counts { IsCountedOn system.now p self.old.counted self.new.counted }
         ensures same { self.new ≡ record self.old { counted = self.new.counted; seen = self.new.seen } }
     {
         advance(&mut self.counted, system, p);

@@ -4,17 +4,18 @@
 ghost use Rattle.std.specs.Prelude.{◌≡◌, ◌<◌, ◌≤◌, ◌&&◌, length, not};
 ghost use Rattle.ptk_words.specs.Calls.{call_of};
 ghost use Rattle.ptk_words.specs.declared.TheConstants.{LAST_TICK};
+ghost use Rattle.ptk_words_model.specs.Priority.{thread_at};
 ghost use Rattle.ptk_main_runs.specs.Steps.{step_end};
 ghost use Rattle.ptk_main_runs.specs.World.{state_of};
 ghost use Rattle.ptk_words_laws.specs.Others.{can_act_on_others};
-ghost use Rattle.ptk_statistics_run.specs.Observations.{comes_by, has_halted, is_apart, is_late_error, is_owner_call, is_refused, is_reply_error, number_in, owner_call, pc_behind, step_at};
-ghost use Rattle.ptk_statistics_run.specs.Gathering.{is_deadline_by, is_disturbed_by, is_input_by, is_preempted_behind, last_behind, step_ticks, window_end};
+ghost use Rattle.ptk_statistics_run.specs.Observations.{comes_by, has_halted, has_reply, is_apart, is_late_error, is_owner_call, is_refused, is_reply_error, is_waiting, number_in, owner_call, pc_behind, step_at};
+ghost use Rattle.ptk_statistics_run.specs.Gathering.{is_deadline_by, is_disturbed_by, is_input_by, is_preempted_behind, last_behind, window_end};
 
 use crate::doing::{has_halted, is_ready, is_timed};
 use crate::observed::{NO_WORD, OwnerCall, WORD};
 use ptk_main_runs::System;
 use ptk_statistics_figures::Doing;
-use ptk_words::{A0, A7, Call, ECALL, Entry, PartId, ThreadNo, Tick, cost};
+use ptk_words::{A0, A7, Call, ECALL, Entry, PartId, Thread, ThreadNo, Tick, cost};
 
 /// The step that began at the tick, if one did.
 pub(crate) fn step_at(system: &System<'_>, p: PartId, tick: u64) -> Option<Entry>
@@ -76,12 +77,41 @@ pub(crate) fn is_refused_behind(system: &System<'_>, p: PartId, entry: &Entry, d
     !has_halted(doing) && is_refused(system, p, entry)
 }
 
-/// Whether a thread goes on at this pc, and its reply is an error.
+/// Whether a thread has a reply, goes on at this pc, and its reply is an error.
 pub(crate) fn is_reply_error(system: &System<'_>, p: PartId, t: ThreadNo, pc: u32) -> bool
     requires { p < length system.now.config.sections }
     ensures { result ≡ is_reply_error t (state_of system.now p).part pc }
 {
-    system.pc(p, t) == Some(pc) && system.register(p, t, A0).unwrap_or(0) != 0
+    has_reply(system, p, t)
+        && system.pc(p, t) == Some(pc)
+        && system.register(p, t, A0).unwrap_or(0) != 0
+}
+
+/// Whether the wait of a thread ended with a reply: the thread waits for nothing any more, and no cancellation took it
+/// out of its wait.
+fn has_reply(system: &System<'_>, p: PartId, t: ThreadNo) -> bool
+    requires { p < length system.now.config.sections }
+    ensures { result ≡ has_reply t (state_of system.now p).part }
+{
+    !is_waiting(&thread_of(system, p, t)) && !system.is_marked(p, t)
+}
+
+/// Whether a number names a thread that waits for something, also where its partition is halted.
+fn is_waiting(thread: &Option<Thread>) -> bool
+    ensures { result ≡ is_waiting thread.now }
+{
+    match thread {
+        Some(thread) => thread.wait.is_some(),
+        None => false,
+    }
+}
+
+/// The thread of a number, None of a free one.
+fn thread_of(system: &System<'_>, p: PartId, t: ThreadNo) -> Option<Thread>
+    requires { p < length system.now.config.sections }
+    ensures { result ≡ thread_at (state_of system.now p).part.locks t }
+{
+    system.tables().threads().thread(p, t)
 }
 
 /// Whether a step is at this pc, and a deadline ended the wait of its thread, which did this.
@@ -261,18 +291,9 @@ fn changes_an_owner(number: u32) -> bool
     }
 }
 
-/// How many ticks before `to` the partition's step takes that began at the tick.
-pub(crate) fn step_ticks(system: &System<'_>, p: PartId, tick: u64, to: u64) -> u64
-    requires partition { p < length system.now.config.sections }
-    requires early { tick ≤ LAST_TICK }
-    ensures { result ≡ step_ticks system.now p tick to }
-{
-    step_end(system, p, tick).min(to).saturating_sub(tick)
-}
-
 /// The end of the partition's step that began at the tick: its next decision, at the latest the end of its window, and
 /// the tick behind where it halted with it.
-fn step_end(system: &System<'_>, p: PartId, tick: u64) -> u64
+pub(crate) fn step_end(system: &System<'_>, p: PartId, tick: u64) -> u64
     requires partition { p < length system.now.config.sections }
     requires early { tick ≤ LAST_TICK }
     ensures { result ≡ step_end tick (window_end system.now p tick) (state_of system.now p) }

@@ -5,12 +5,12 @@ ghost use Rattle.ptk_words.specs.declared.TheConstants.{LAST_TICK, SP};
 ghost use Rattle.ptk_main_runs.specs.Told.{register_in};
 ghost use Rattle.ptk_main_runs.specs.World.{state_of};
 ghost use Rattle.ptk_statistics_run.specs.Observations.{is_late_error, is_reply_error, replied, with_reply, with_stack};
-ghost use Rattle.ptk_statistics_run.specs.Gathering.{at_step, at_step_end, behind_row, changed, looked_at, running_from, step_over, stepped_in, wait_ended, waits_looked_at, with_call_made, with_outcome, with_preemption, with_quiet_call, with_reply_at_wake};
+ghost use Rattle.ptk_statistics_run.specs.Gathering.{at_step, at_step_end, behind_row, changed, is_cut_off, looked_at, running_from, step_over, stepped_in, wait_ended, waits_looked_at, with_call_made, with_outcome, with_preemption, with_quiet_call, with_reply_at_wake, without_waking};
 
 use crate::doing::{doing_of, is_preemption, is_running};
 use crate::reading::{
     call_of, is_late_error, is_preempted_behind, is_refused, is_refused_behind, is_reply_error,
-    pc_behind, step_ticks,
+    pc_behind, step_end,
 };
 use crate::waits::end_wait;
 use ptk_main_runs::{Activity, System};
@@ -67,6 +67,15 @@ fn preempt_if(thread: &mut ThreadStatistics, is_preempted: bool)
 {
     if is_preempted {
         thread.preempt();
+    }
+}
+
+/// The activation of a thread that is under way, if one is, is not counted where its last step is cut off.
+fn forget_waking_if(thread: &mut ThreadStatistics, is_cut: bool)
+    ensures { thread.new ≡ without_waking is_cut thread.old }
+{
+    if is_cut {
+        thread.forget_waking();
     }
 }
 
@@ -153,7 +162,8 @@ fn end_made_call(
     }
 }
 
-/// Where its step ends that began at a moment, in a run up to a tick, a thread runs on, or does something else.
+/// Where its step ends that began at a moment, in a run up to a tick, a thread runs on, or does something else. A step
+/// that ends behind that tick is cut off there.
 fn end_step(
     thread: &mut ThreadStatistics,
     system: &System<'_>,
@@ -165,15 +175,17 @@ fn end_step(
 )
     requires partition { p < length system.now.config.sections }
     requires early { at.tick ≤ LAST_TICK }
-    ensures { thread.new ≡ at_step_end activity.now call.now (step_over system.now p at to) thread.old }
+    ensures { thread.new ≡ at_step_end activity.now call.now (is_cut_off system.now p at.tick to) (step_over system.now p at to) thread.old }
 {
     let doing = doing_of(activity);
     if is_running(doing) {
         return;
     }
-    let end = at.after(step_ticks(system, p, at.tick, to));
+    let end = step_end(system, p, at.tick);
+    let ticks = end.min(to).saturating_sub(at.tick);
     preempt_if(thread, is_preempted_behind(call, doing));
-    thread.turn_to(doing, end);
+    forget_waking_if(thread, to < end);
+    thread.turn_to(doing, at.after(ticks));
     thread.wait_for(activity.mutex());
 }
 

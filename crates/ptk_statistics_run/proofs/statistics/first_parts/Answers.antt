@@ -22,6 +22,7 @@ loop-i-preserved c =
     let first : IsFirstOf system c.new-p.result c.in_ok-part.part = record {
       observed = subst (λ (limits : Limits). IsFirst (state_of system c.new-p.result).part limits.threads limits.mutexes c.in_ok-part.part.observed) c.limits_of-limits.ensures c.in_ok-part.ensures.first;
       tick = c.in_ok-part.ensures.tick;
+      counts = c.in_ok-part.ensures.counts;
       seen = c.in_ok-part.ensures.seen;
     } in record {
       count = omega (arith, ap length pushed, length-append c.loop-i.parts.items (c.in_ok-part.part ∷ []), c.loop-i.invariant.count);

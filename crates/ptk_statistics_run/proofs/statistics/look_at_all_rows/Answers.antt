@@ -18,7 +18,7 @@ loop-i-preserved c =
           (subst (λ (p : ℕ). IsKept c.args.system.now p c.look_at_row.new.self) number c.look_at_row.ensures.kept);
       rows = one_related (IsBehindRows c.args.system.now) c.loop-i.i c.new.result c.args.parts.now c.loop-i.parts
           c.index-parts-i.result c.look_at_row.new.self (omega arith) within number c.loop-i.invariant.rows
-          (record { threads = c.look_at_row.ensures.threads; mutexes = c.look_at_row.ensures.mutexes; last = c.look_at_row.ensures.last; seen = c.look_at_row.ensures.seen });
+          (record { threads = c.look_at_row.ensures.threads; mutexes = c.look_at_row.ensures.mutexes; last = c.look_at_row.ensures.last; seen = c.look_at_row.ensures.seen; counts = c.look_at_row.ensures.counts });
     }
 
 pub look_at_row-requires-clause-kept : goal.look_at_row-requires-clause-kept

@@ -20,6 +20,7 @@ returns-clause-finished c =
     let at : ◌≡◌ {A = Moment} (record { own = c.own-own.result; tick = c.tick-tick.result }) (moment_now c.args.system.now c.args.p) =
     ap₂ {C = Moment} (λ (o : ℕ) (t : ℕ). record { own = o; tick = t }) own (c.tick-tick.ensures ∙ c.count.ensures.tick) in
     let same = ap (λ (part : PartStatistics). part.observed) c.count.ensures.same in record {
+      counts = c.count.ensures.counts;
       threads = subst (λ (moment : Moment). AreMadeBy (λ (t : ℕ). finished moment) THREAD_LIMIT c.args.self.now.observed.threads.items c.finish.new.self.threads.items) at
           (subst (λ (observed : Observed). AreMadeBy (λ (t : ℕ). finished (record { own = c.own-own.result; tick = c.tick-tick.result })) THREAD_LIMIT observed.threads.items c.finish.new.self.threads.items)
           same c.finish.ensures.threads);

@@ -18,6 +18,7 @@ returns-clause-seen c =
     subst (λ (own : ℕ). IsSeen (doing_eq.ghosts).eq c.args.system.now c.args.p (record { own = own; tick = c.args.tick }) c.args.to c.args.self.now.observed c.look.new.self) own c.look.ensures in record {
       observed = subst (IsSeen (doing_eq.ghosts).eq c.args.system.now c.args.p (moment_at c.args.tick c.args.self.now.counted) c.args.to c.args.self.now.observed)
           (sym (ap (λ (part : PartStatistics). part.observed) c.count.ensures.same)) seen;
+      counts = c.count.ensures.counts;
       counted = c.count.ensures.tick;
       seen = c.count.ensures.seen;
     }
