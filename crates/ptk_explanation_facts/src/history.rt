@@ -3,7 +3,7 @@
 ghost use Rattle.std.specs.Prelude.{◌≡◌, ◌<◌, ◌≤◌, IfOk, MatchResult, if◌then◌else◌, length, max};
 ghost use Rattle.ptk_words.specs.declared.TheConstants.{LAST_TICK};
 ghost use Rattle.ptk_main_runs.specs.World.{at_tick, state_of};
-ghost use Rattle.ptk_explanation_facts.specs.Histories.{AreLooked, AreNew, AreSeenTo, AreSince, least_before, lesser, looked, no_history};
+ghost use Rattle.ptk_explanation_facts.specs.Histories.{AreLooked, AreNew, AreSeenTo, AreSince, begins_by_step, is_running, least_before, lesser, looked, no_history, stepper};
 
 use crate::facts::thread_count;
 use ptk_main_runs::{Activity, System};
@@ -34,24 +34,57 @@ impl History {
         }
     }
 
-    /// What is seen of a thread after the decision at a tick. A thread that has a number anew begins anew.
-    fn look(&mut self, system: &System<'_>, p: PartId, t: ThreadNo, tick: u64)
+    /// What is seen of a thread after the decision at a tick, with which the thread `by` made a step if one did. A thread
+    /// that has a number anew begins anew, and so does one that does the same again by a step of its own.
+    fn look(
+        &mut self,
+        system: &System<'_>,
+        p: PartId,
+        t: ThreadNo,
+        by: &Option<ThreadNo>,
+        tick: u64,
+    )
         requires { p < length system.now.config.sections }
-        ensures { self.new ≡ looked ⟦<Activity as PartialEq>⟧.eq (state_of system.now p).part t tick self.old }
+        ensures { self.new ≡ looked ⟦<Activity as PartialEq>⟧.eq by.now (state_of system.now p).part t tick self.old }
     {
         let activity = system.activity(p, t);
-        self.since = since_when(activity == self.activity, self.since, tick);
+        let goes_on = activity == self.activity && !begins_by_step(by, t, &activity);
+        self.since = since_when(goes_on, self.since, tick);
         let least = least_before(&activity, self.least_stack);
         self.least_stack = lesser(least, system.register(p, t, SP));
         self.activity = activity;
     }
 }
 
-/// The tick since which a thread does what it does at a decision: that of the decision, unless it did the same before.
-fn since_when(is_same: bool, since: u64, tick: u64) -> u64
-    ensures { result ≡ (if is_same then since else tick) }
+/// The tick since which a thread does what it does at a decision: that of the decision, unless it goes on with it.
+fn since_when(goes_on: bool, since: u64, tick: u64) -> u64
+    ensures { result ≡ (if goes_on then since else tick) }
 {
-    if is_same { since } else { tick }
+    if goes_on { since } else { tick }
+}
+
+/// Whether a thread begins what it does by a step of its own: the step was of its number, and it does not run on.
+fn begins_by_step(by: &Option<ThreadNo>, t: ThreadNo, activity: &Activity) -> bool
+    ensures { result ≡ begins_by_step by.now t activity.now }
+{
+    match by {
+        Some(by) => by.number() == t.number() && !is_running(activity),
+        None => false,
+    }
+}
+
+/// Whether a thread that does this runs.
+fn is_running(activity: &Activity) -> bool
+    ensures { result ≡ is_running activity.now }
+{
+    match activity {
+        Activity::Running => true,
+        Activity::Free
+        | Activity::Ready
+        | Activity::Blocked(_)
+        | Activity::Ended
+        | Activity::Halted => false,
+    }
 }
 
 /// The least stack pointer seen before of a thread that does this, None of a free number.
@@ -114,8 +147,10 @@ fn watch(system: &mut System<'_>, p: PartId, to: Tick, histories: &mut [History]
     let end = to.ticks();
     let mut tick = system.tick().ticks();
     while tick < end {
+        let steps = system.steps(p);
         system.run_to(Tick::new(tick + 1));
-        look_at_all(system, p, tick, histories);
+        let by = stepper(system, p, steps);
+        look_at_all(system, p, &by, tick, histories);
         system.compute_to(to);
         let next = system.stays_until(p, to).ticks();
         let after = next.max(tick + 1);
@@ -124,13 +159,34 @@ fn watch(system: &mut System<'_>, p: PartId, to: Tick, histories: &mut [History]
     system.run_to(to);
 }
 
-/// What is seen of a partition's threads after the decision at a tick.
-fn look_at_all(system: &System<'_>, p: PartId, tick: u64, histories: &mut [History])
+/// The thread that made the step since the partition had made so many, None where none was made.
+fn stepper(system: &System<'_>, p: PartId, steps: u64) -> Option<ThreadNo>
     requires { p < length system.now.config.sections }
-    ensures { AreLooked ⟦<Activity as PartialEq>⟧.eq (state_of system.now p).part tick histories.old histories.new }
+    ensures { result ≡ stepper steps (state_of system.now p) }
+{
+    if system.steps(p) <= steps {
+        return None;
+    }
+    match system.last_step(p) {
+        Some(entry) => Some(entry.thread),
+        None => None,
+    }
+}
+
+/// What is seen of a partition's threads after the decision at a tick, with which the thread `by` made a step if one
+/// did.
+fn look_at_all(
+    system: &System<'_>,
+    p: PartId,
+    by: &Option<ThreadNo>,
+    tick: u64,
+    histories: &mut [History],
+)
+    requires { p < length system.now.config.sections }
+    ensures { AreLooked ⟦<Activity as PartialEq>⟧.eq by.now (state_of system.now p).part tick histories.old histories.new }
 {
     for place in 0..histories.len().min(THREAD_LIMIT as usize) {
         let t = ThreadNo::new(place as u8 + 1);
-        histories[place].look(system, p, t, tick);
+        histories[place].look(system, p, t, by, tick);
     }
 }

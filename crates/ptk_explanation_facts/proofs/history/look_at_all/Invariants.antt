@@ -4,4 +4,4 @@ use Rattle.ptk_explanation_facts.proofs.Looks.{AreLookedTo}
 use Rattle.ptk_explanation_facts.proofs.history.look_at_all.Given as goal
 
 abbrev pub invariant-loop-place : goal.invariant-loop-place
-invariant-loop-place l = AreLookedTo (activity_eq.ghosts).eq (state_of l.system l.p).part l.tick l.place l.initial.histories l.histories
+invariant-loop-place l = AreLookedTo (activity_eq.ghosts).eq l.by (state_of l.system l.p).part l.tick l.place l.initial.histories l.histories
