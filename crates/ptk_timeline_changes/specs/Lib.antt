@@ -6,5 +6,6 @@ pub mod Dumps
 pub use Rattle.ptk_main_runs.specs.Going
 pub use Rattle.ptk_main_runs.specs.Missing
 pub use Rattle.ptk_main_runs.specs.PartStatus
+pub use Rattle.ptk_main_runs.specs.Steps as RunSteps
 pub use Rattle.ptk_main_runs.specs.Told
 pub use Rattle.ptk_main_runs.specs.World

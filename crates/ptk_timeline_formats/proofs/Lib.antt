@@ -10,3 +10,13 @@ pub mod Outputs
 pub mod Stretches
 pub mod Turns
 pub mod Wholes
+pub mod Showing
+pub mod Staying
+pub mod Ticks
+pub mod TrueRuns
+pub mod Pieces
+pub mod Looks
+pub mod Effects
+pub mod Readings
+pub mod Firsts
+pub mod ReadRuns

@@ -6,4 +6,6 @@ pub mod Texts
 pub mod Traces
 pub mod Outputs
 pub mod Runs
+pub mod Reading
+pub mod Ticks
 pub use Rattle.ptk_timeline_changes.specs.Missing

@@ -44,6 +44,11 @@ stepped_as step s view after = record view {
   steps = s.account.steps;
 }
 
+-- behind a decision: the step that it began is shown, if it began one, and all that is kept is what the state has (own)
+abbrev pub IsDecisionShown : Output → ℕ → ℕ → ℕ → State → ℕ → ℕ → PartView → PartView → List ℕ → Type 0
+IsDecisionShown output p tick end s at reached before after lines =
+    IsLook output p (step_since before.steps tick end s) s.part tick at reached before after lines × (after ≡ kept_in (step_since before.steps tick end s) s after)
+
 -- behind plain steps: the last of them is shown, if it goes on from this tick; else all is as it was (own)
 abbrev pub IsStepShown : Output → ℕ → ℕ → State → ℕ → ℕ → PartView → PartView → List ℕ → Option Step → Type 0
 IsStepShown output p tick s at reached before after lines step =
@@ -65,7 +70,21 @@ pub record Scene : Type 0 where
   pub at : ℕ
   pub view : PartView
 
--- from a tick at which something of a partition can change to the next in a window, which is not before the system's tick: the decision at the tick is made and shown, with what is lost; then plain steps are made up to the window's end at most, over which each thread does what it did, and the last is shown; then nothing changes up to the next such tick (own)
+-- no later tick up to another is one up to which nothing of a partition changes but the tick of its next decision (own)
+abbrev pub IsLatest : World → ℕ → ℕ → ℕ → Type 0
+IsLatest world p end due = (k : ℕ) → k ≤ end → ((j : ℕ) → world.tick ≤ j → j ≤ k → but_next (state_of (at_tick j world) p) ≡ but_next (state_of world p)) → k ≤ due
+
+-- a system goes on over plain steps to a later tick, at most the window's end, and each thread of a partition does what it did; then nothing of the partition changes up to the tick that is due, the latest such, which is not before that one, but at the window's end (own)
+pub record IsPassage (p begin end : ℕ) (first later : World) (due : ℕ) : Type 0 where
+  pub goes_on : later ≡ at_tick later.tick first
+  pub on : first.tick ≤ later.tick
+  pub within : later.tick ≤ max first.tick end
+  pub steady : GoesOnAsIs first p later.tick
+  pub behind : min later.tick end ≤ due
+  pub still : (k : ℕ) → later.tick < k → begin < k → k ≤ due → but_next (state_of (at_tick k later) p) ≡ but_next (state_of later p)
+  pub latest : IsLatest later p end due
+
+-- from a tick at which something of a partition can change to the next one in a window: the decision at the tick is made and shown, with what is lost; the system goes on from the end of its step; the last plain step is shown, and what it has made of its thread (own)
 pub record IsStretch (output : Output) (p end : ℕ) (before after : Scene) (lines : List ℕ) : Type 0 where
   pub first : World
   pub decided : PartView
@@ -77,18 +96,12 @@ pub record IsStretch (output : Output) (p end : ℕ) (before after : Scene) (lin
   pub of_end : List ℕ
   pub text : lines ≡ of_decision ++ lost_text output (state_of first p) p before.due before.view ++ of_step ++ of_end
   pub decides : first ≡ at_tick (max before.world.tick (before.due + 1)) before.world
-  pub decision : IsLook output p (step_since before.view.steps before.due end (state_of first p)) (state_of first p).part before.due before.at decided_at before.view decided of_decision
-  pub kept : decided ≡ kept_in (step_since before.view.steps before.due end (state_of first p)) (state_of first p) decided
-  pub later : before.due < after.due
-  pub goes_on : after.world ≡ at_tick after.world.tick first
-  pub on : first.tick ≤ after.world.tick
-  pub within : after.world.tick ≤ max first.tick end
-  pub behind : min after.world.tick end ≤ after.due
-  pub steady : GoesOnAsIs first p after.world.tick
+  pub decision : IsDecisionShown output p before.due end (state_of first p) before.at decided_at before.view decided of_decision
+  pub goes : IsPassage p (tick_behind_step before.due decided.step) end first after.world after.due
+  pub later : tick_behind_step before.due decided.step ≤ after.due
   pub step : IsStepShown output p (tick_behind_step before.due decided.step) (state_of after.world p) decided_at stepped_at decided stepped of_step
       (step_within decided.steps (tick_behind_step before.due decided.step) end (state_of after.world p))
   pub over : IsEndShown output p (tick_behind_step after.due stepped.step) (state_of after.world p).part stepped_at after.at stepped after.view of_end (is_step_over after.due end stepped.step)
-  pub still : (k : ℕ) → after.world.tick < k → tick_behind_step before.due decided.step < k → k ≤ after.due → but_next (state_of (at_tick k after.world) p) ≡ but_next (state_of after.world p)
 
 -- such stretches, one after another, from a scene on, before the window's end (own)
 pub data AreStretches (output : Output) (p end : ℕ) (from : Scene) : Scene → List ℕ → Type 0 where
@@ -96,12 +109,13 @@ pub data AreStretches (output : Output) (p end : ℕ) (from : Scene) : Scene →
   one_stretch : {now next : Scene} {before lines : List ℕ} → AreStretches output p end from now before → now.due < end → IsStretch output p end now next lines
       → AreStretches output p end from next (before ++ lines)
 
--- over a window of a partition, or the part of one, from a tick up to another: nothing changes up to the first tick at which something can, and from there on stretch follows stretch up to the end (own)
+-- over a window of a partition, or the part of one, from a tick up to another: nothing changes up to the first tick at which something does, and from there on stretch follows stretch up to the end (own)
 pub record IsWindow (output : Output) (p from end : ℕ) (world later : World) (at reached : ℕ) (before after : PartView) (lines : List ℕ) : Type 0 where
   pub first : ℕ
   pub begins : from ≤ first
   pub ends : first ≤ end
   pub still : (k : ℕ) → world.tick ≤ k → from < k → k ≤ first → but_next (state_of (at_tick k world) p) ≡ but_next (state_of world p)
+  pub latest : IsLatest world p end first
   pub goes : AreStretches output p end (record { world = world; due = first; at = at; view = record before { step = None } }) (record { world = later; due = end; at = reached; view = after }) lines
 
 -- ---- all partitions

@@ -1,12 +1,14 @@
 -- What trace events have of what is shown of a partition, by tests of what is the same.
-use Rattle.std.specs.Prelude.{ℕ, ◌-◌, nat_lt, nat_le, ◌==◌, List, [], ◌∷◌, ◌++◌, Bool, true, false, not, if◌then◌else◌, Option, Some, None, flat_map, take}
+use Rattle.std.specs.Prelude.{ℕ, ◌-◌, nat_lt, nat_le, ◌==◌, List, [], ◌∷◌, ◌++◌, Bool, true, false, ◌||◌, not, if◌then◌else◌, Option, Some, None, unwrap_or, flat_map, take}
 use Rattle.std.specs.Bool.{then_some}
 use Rattle.std.specs.List.{enumerate_from}
 use Rattle.ptk_words.specs.Names.{ThreadNumber}
+use Rattle.ptk_words.specs.Pools.{numbered}
 use Rattle.ptk_words.specs.declared.TheConstants.{THREAD_LIMIT}
 use Rattle.ptk_words.specs.declared.threads.Wait.{Wait}
 use Rattle.ptk_words.specs.declared.threads.Wait.TheVariants.{InputWait, SleepWait, JoinWait, MutexWait, ConditionWait, RelockWait}
 use Rattle.ptk_words_model.specs.State.{Part, State}
+use Rattle.ptk_words_model.specs.ThreadCreation.{new_cancellation}
 use Rattle.ptk_timeline_changes.specs.PartStatus.{PartStatus}
 use Rattle.ptk_timeline_changes.specs.Told.{pc_in}
 use Rattle.ptk_timeline_changes.specs.declared.shown.Doing.{Doing}
@@ -31,24 +33,38 @@ abbrev pub has_come : ℕ → Option ℕ → Bool
 has_come tick None = false
 has_come tick (Some deadline) = nat_le deadline tick
 
--- a wait ends by itself by a tick: it is for input, or its deadline has come (own)
-abbrev pub ends_by_itself : ℕ → Wait → Bool
-ends_by_itself tick InputWait = true
-ends_by_itself tick (SleepWait deadline) = nat_le deadline tick
-ends_by_itself tick (JoinWait thread) = false
-ends_by_itself tick (MutexWait m deadline) = has_come tick deadline
-ends_by_itself tick (ConditionWait c m deadline) = has_come tick deadline
-ends_by_itself tick (RelockWait m reply) = false
+-- a cancellation took the thread out of its wait (XSH 2.9.5.2)
+abbrev pub is_taken_out : ℕ → Part → Bool
+is_taken_out t s = (unwrap_or (numbered s.cancellations t) new_cancellation).is_marked
 
--- the wait of a thread has ended at a tick, and not by itself: the thread was blocked and does not do the same still (own)
-abbrev pub is_woken : Bool → ℕ → Doing → Bool
-is_woken is_same tick doing.Free = false
-is_woken is_same tick doing.Running = false
-is_woken is_same tick doing.Suspended = false
-is_woken is_same tick doing.Ready = false
-is_woken is_same tick (doing.Blocked wait) = if is_same then false else not (ends_by_itself tick wait)
-is_woken is_same tick doing.Ended = false
-is_woken is_same tick doing.Halted = false
+-- a wait ends by itself by a tick: its deadline has come, or it is for input and no cancellation took its thread out of it (own)
+abbrev pub ends_by_itself : Bool → ℕ → Wait → Bool
+ends_by_itself is_out tick InputWait = not is_out
+ends_by_itself is_out tick (SleepWait deadline) = nat_le deadline tick
+ends_by_itself is_out tick (JoinWait thread) = false
+ends_by_itself is_out tick (MutexWait m deadline) = has_come tick deadline
+ends_by_itself is_out tick (ConditionWait c m deadline) = has_come tick deadline
+ends_by_itself is_out tick (RelockWait m reply) = false
+
+-- its partition has halted (own)
+abbrev pub has_halted : Doing → Bool
+has_halted doing.Free = false
+has_halted doing.Running = false
+has_halted doing.Suspended = false
+has_halted doing.Ready = false
+has_halted (doing.Blocked wait) = false
+has_halted doing.Ended = false
+has_halted doing.Halted = true
+
+-- the wait of a thread has ended at a tick, and not by itself: the thread was blocked, and does not do the same still, nor has its partition halted (own)
+abbrev pub is_woken : Bool → Bool → ℕ → Doing → Doing → Bool
+is_woken is_same is_out tick after doing.Free = false
+is_woken is_same is_out tick after doing.Running = false
+is_woken is_same is_out tick after doing.Suspended = false
+is_woken is_same is_out tick after doing.Ready = false
+is_woken is_same is_out tick after (doing.Blocked wait) = if is_same || has_halted after then false else not (ends_by_itself is_out tick wait)
+is_woken is_same is_out tick after doing.Ended = false
+is_woken is_same is_out tick after doing.Halted = false
 
 -- the thread whose step has ended the wait of another (own)
 abbrev pub waker_of : Bool → ℕ → Option Step → Option ThreadNumber
@@ -71,7 +87,7 @@ shown_events symbols p t tick kept shown start =
 abbrev pub thread_events : Bool → Bool → List (ℕ × List ℕ) → Option Step → Part → ℕ → ℕ → ℕ → ShownSince → Shown → List ℕ
 thread_events is_same does_same symbols step s p t tick kept after =
     if is_same then []
-    else (shown_events symbols p t tick kept after (pc_in t s) ++ waking_text p t tick (waker_of (is_woken does_same tick kept.shown.doing) t step))
+    else (shown_events symbols p t tick kept after (pc_in t s) ++ waking_text p t tick (waker_of (is_woken does_same (is_taken_out t s) tick after.doing kept.shown.doing) t step))
 
 -- the same of a thread by its number, with what is kept of it, by tests of what is the same (own)
 unfoldable pub numbered_events : (Shown → Shown → Bool) → (Doing → Doing → Bool) → List (ℕ × List ℕ) → Option Step → Part → ℕ → ℕ → ℕ × ShownSince → List ℕ

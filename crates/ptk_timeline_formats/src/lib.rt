@@ -20,6 +20,12 @@
 //!   window plan, up to the last tick, with none left out (`IsTurn`); in a window stretch after stretch, each a
 //!   decision, the plain steps behind it, and ticks at which nothing of the partition changes (`IsStretch`); and the
 //!   end (`run_end`).
+//! - Of each such dump: the ticks of its lines only grow, and at each of its ticks a reader, who has of each signal the
+//!   last value that is written at that tick or before, has what the state of the partition behind that tick says: its
+//!   window, its status, its running thread, and of each thread what it does, with its effective priority
+//!   (`dumps_are_true`: `IsTrueDump`, `AreOfTick`). Two things are said less closely. Which ticks a step takes up is
+//!   not read from the states: of the step that is shown is said whose it is. And of a partition that is not halted,
+//!   and of which no thread runs, it is left open whether it is shown as idle or as running.
 //! - What trace events have of changes is the definition's too (`events` of `Sheet::put_each`: `changes_events`), and
 //!   so is which changes a view writes: of what is shown, all that is not as before (`events` of `PartView::show`,
 //!   `go_on` and `settle`: `part_events`), at a decision what is lost too (`decide`: `decision_events`), the names of
@@ -34,11 +40,13 @@
 
 mod board;
 mod fault;
+mod laws;
 mod run;
 mod sheet;
 mod threads;
 mod view;
 
 pub use fault::FormatFault;
+pub use laws::dumps_are_true;
 pub use run::dump_with;
 pub use sheet::Form;

@@ -9,7 +9,7 @@ ghost use Rattle.ptk_timeline_changes.specs.Shown.{is_step_of, shown_in};
 ghost use Rattle.ptk_timeline_formats.specs.declared.sheet.Form.TheVariants.{Vcd, Events};
 ghost use Rattle.ptk_timeline_formats.specs.Changes.{lines_at};
 ghost use Rattle.ptk_timeline_formats.specs.Texts.{shown_lines, thread_text, threads_behind, threads_text};
-ghost use Rattle.ptk_timeline_formats.specs.Traces.{ends_by_itself, has_come, is_woken, shown_events, thread_events, threads_events, waker_of, waking_text};
+ghost use Rattle.ptk_timeline_formats.specs.Traces.{ends_by_itself, has_come, has_halted, is_woken, shown_events, thread_events, threads_events, waker_of, waking_text};
 ghost use Rattle.ptk_timeline_formats.specs.Views.{AreKeptSince, AreShown, since_when};
 
 use crate::sheet::Sheet;
@@ -114,16 +114,9 @@ fn show_thread<W: Write>(
         return Ok(ShownSince { shown, since });
     }
     put_shown(kept, &shown, system, p, t, tick, sheet, out)?;
-    put_waking(
-        &kept.shown.doing,
-        &shown.doing,
-        p,
-        t,
-        step,
-        tick,
-        sheet,
-        out,
-    )?;
+    let is_out = system.is_marked(p, t);
+    let waker = waker_of(t, &kept.shown.doing, &shown.doing, is_out, step, tick);
+    put_waking(waker, p, t, tick, sheet, out)?;
     Ok(ShownSince { shown, since: tick })
 }
 
@@ -162,11 +155,9 @@ fn put_shown<W: Write>(
 /// Writes which thread's step has ended the wait of a thread, where one has. A dump has nothing of it.
 #[tactic(auto, unfolding(crate::specs::Traces::waking_text))]
 fn put_waking<W: Write>(
-    before: &Doing,
-    after: &Doing,
+    waker: Option<ThreadNo>,
     p: PartId,
     t: ThreadNo,
-    step: &Option<Step>,
     tick: u64,
     sheet: &mut Sheet<'_, '_>,
     out: &mut W,
@@ -179,24 +170,25 @@ fn put_waking<W: Write>(
     ensures unseen { sheet.old.form ≡ Vcd → (out.new ≡ out.old) × (sheet.new ≡ sheet.old) }
     ensures symbols { sheet.new.symbols.now ≡ sheet.old.symbols.now }
     ensures events { sheet.old.form ≡ Events → OnOk result (Appends (W.contents out.old) (W.contents out.new)
-        (waking_text p t tick (waker_of (is_woken (⟦<Doing as PartialEq>⟧.eq before.now after.now) tick before.now) t step.now))) }
+        (waking_text p t tick waker)) }
 {
-    match waker_of(t, before, after, step, tick) {
+    match waker {
         Some(by) => sheet.put(p, tick, &Change::Woken(by, t), out),
         None => Ok(()),
     }
 }
 
-/// The thread whose step has ended the wait of another, where the wait has ended and neither came its deadline nor was
-/// it for input, which comes by itself.
+/// The thread whose step has ended the wait of another, where the wait has ended, not by itself, and the partition has
+/// not halted. `is_out` is whether a cancellation took the thread out of its wait.
 fn waker_of(
     t: ThreadNo,
     before: &Doing,
     after: &Doing,
+    is_out: bool,
     step: &Option<Step>,
     tick: u64,
 ) -> Option<ThreadNo>
-    ensures { result ≡ waker_of (is_woken (⟦<Doing as PartialEq>⟧.eq before.now after.now) tick before.now) t step.now }
+    ensures { result ≡ waker_of (is_woken (⟦<Doing as PartialEq>⟧.eq before.now after.now) is_out tick after.now before.now) t step.now }
 {
     let Some(step) = step else {
         return None;
@@ -204,19 +196,19 @@ fn waker_of(
     if step.thread.number() == t.number() {
         return None;
     }
-    is_woken(before, after, tick).then_some(step.thread)
+    is_woken(before, after, is_out, tick).then_some(step.thread)
 }
 
-/// Whether a wait has ended at a tick that does not end by itself there.
-fn is_woken(before: &Doing, after: &Doing, tick: u64) -> bool
-    ensures { result ≡ is_woken (⟦<Doing as PartialEq>⟧.eq before.now after.now) tick before.now }
+/// Whether a wait has ended at a tick that does not end by itself there. At its partition's halt it does not end.
+fn is_woken(before: &Doing, after: &Doing, is_out: bool, tick: u64) -> bool
+    ensures { result ≡ is_woken (⟦<Doing as PartialEq>⟧.eq before.now after.now) is_out tick after.now before.now }
 {
     match before {
         Doing::Blocked(wait) => {
-            if *before == *after {
+            if *before == *after || has_halted(after) {
                 return false;
             }
-            !ends_by_itself(wait, tick)
+            !ends_by_itself(wait, is_out, tick)
         }
         Doing::Free
         | Doing::Running
@@ -227,12 +219,28 @@ fn is_woken(before: &Doing, after: &Doing, tick: u64) -> bool
     }
 }
 
-/// Whether a wait ends by itself by a tick: it is for input, or its deadline has come.
-fn ends_by_itself(wait: &Wait, tick: u64) -> bool
-    ensures { result ≡ ends_by_itself tick wait.now }
+/// Whether its partition has halted.
+fn has_halted(doing: &Doing) -> bool
+    ensures { result ≡ has_halted doing.now }
+{
+    match doing {
+        Doing::Halted => true,
+        Doing::Free
+        | Doing::Running
+        | Doing::Suspended
+        | Doing::Ready
+        | Doing::Blocked(_)
+        | Doing::Ended => false,
+    }
+}
+
+/// Whether a wait ends by itself by a tick: its deadline has come, or it is for input and no cancellation took its
+/// thread out of it.
+fn ends_by_itself(wait: &Wait, is_out: bool, tick: u64) -> bool
+    ensures { result ≡ ends_by_itself is_out tick wait.now }
 {
     match wait {
-        Wait::InputWait => true,
+        Wait::InputWait => !is_out,
         Wait::SleepWait(deadline) => deadline.ticks() <= tick,
         Wait::MutexWait(_, deadline) => has_come(*deadline, tick),
         Wait::ConditionWait(_, _, deadline) => has_come(*deadline, tick),

@@ -7,7 +7,7 @@ ghost use Rattle.ptk_timeline_changes.specs.World.{at_tick, but_next, state_of};
 ghost use Rattle.ptk_timeline_changes.specs.Steps.{is_step_over, step_since, step_within, tick_behind_step};
 ghost use Rattle.ptk_timeline_formats.specs.declared.sheet.Form.TheVariants.{Vcd, Events};
 ghost use Rattle.ptk_timeline_formats.specs.Outputs.{output_of};
-ghost use Rattle.ptk_timeline_formats.specs.Runs.{IsStretch, IsWindow};
+ghost use Rattle.ptk_timeline_formats.specs.Runs.{IsLatest, IsStretch, IsWindow};
 ghost use Rattle.ptk_timeline_formats.specs.Texts.{first_text, part_behind, part_text};
 ghost use Rattle.ptk_timeline_formats.specs.Traces.{decision_events, first_events, last_events, lost_events, part_events};
 ghost use Rattle.ptk_timeline_formats.specs.Views.{AreKeptSince, AreShown, kept_in, runner_shown, start_in, status_shown};
@@ -427,6 +427,7 @@ fn due(system: &System<'_>, p: PartId, tick: u64, end: u64) -> u64
     ensures to { result ≤ end }
     ensures stays { (k : ℕ) → system.now.tick ≤ k → tick < k → k ≤ result →
         but_next (state_of (at_tick k system.now) p) ≡ but_next (state_of system.now p) }
+    ensures latest { end ≤ LAST_TICK → IsLatest system.now p end result }
 {
     system.stays_until(p, Tick::new(end)).ticks().max(tick)
 }
@@ -441,6 +442,7 @@ fn due_behind(system: &System<'_>, p: PartId, begin: u64, end: u64) -> u64
     ensures behind { min system.now.tick end ≤ result }
     ensures still { (k : ℕ) → system.now.tick < k → begin < k → k ≤ result →
         but_next (state_of (at_tick k system.now) p) ≡ but_next (state_of system.now p) }
+    ensures latest { end ≤ LAST_TICK → IsLatest system.now p end result }
 {
     let tick = system.tick().ticks().max(begin).min(end);
     due(system, p, tick, end)

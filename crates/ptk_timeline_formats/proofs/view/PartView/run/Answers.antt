@@ -48,6 +48,7 @@ returns-clause-text g c =
         begins = c.due-tick.ensures.from;
         ends = c.due-tick.ensures.to;
         still = c.due-tick.ensures.stays;
+        latest = c.due-tick.ensures.latest c.requires.early;
         goes = subst (λ (due : ℕ). AreStretches (output_of c.args.sheet.now.form c.args.sheet.now.symbols.now) c.args.p c.args.end first (record { world = c.loop-tick.system; due = due; at = c.loop-tick.sheet.at; view = c.loop-tick.self }) goes.0) last goes.2;
       },
     )

@@ -57,16 +57,21 @@ returns-clause-text g c =
         of_end = end.0;
         text = refl;
         decides = goes;
-        decision = record { written = refl; last = λ is. c.in_ok-decide.ensures.reached (sym (form_kept form symbols) ∙ is); threads = c.in_ok-decide.ensures.shown; since = c.in_ok-decide.ensures.since; count = c.decide.ensures.count };
-        kept = c.in_ok-decide.ensures.kept;
-        later = omega (arith, c.in_ok-begin.ensures.begin, c.due_behind-next.ensures.from);
-        goes_on = c.compute_to.ensures.run;
-        on = c.compute_to.ensures.from;
-        within = omega (arith, c.compute_to.ensures.within, c.new-2.ensures);
-        behind = c.due_behind-next.ensures.behind;
-        steady = c.compute_to.ensures.steady p within;
+        decision = (
+          record { written = refl; last = λ is. c.in_ok-decide.ensures.reached (sym (form_kept form symbols) ∙ is); threads = c.in_ok-decide.ensures.shown; since = c.in_ok-decide.ensures.since; count = c.decide.ensures.count },
+          c.in_ok-decide.ensures.kept,
+        );
+        goes = record {
+          goes_on = c.compute_to.ensures.run;
+          on = c.compute_to.ensures.from;
+          within = omega (arith, c.compute_to.ensures.within, c.new-2.ensures);
+          steady = c.compute_to.ensures.steady p within;
+          behind = c.due_behind-next.ensures.behind;
+          still = λ k after behind to. c.due_behind-next.ensures.still k after (omega (arith, c.in_ok-begin.ensures.behind, behind)) to;
+          latest = c.due_behind-next.ensures.latest c.requires.early;
+        };
+        later = omega (arith, c.in_ok-begin.ensures.behind, c.due_behind-next.ensures.from);
         step = step.2;
         over = end.2;
-        still = λ k after behind to. c.due_behind-next.ensures.still k after (omega (arith, c.in_ok-begin.ensures.behind)) to;
       },
     )
