@@ -125,7 +125,7 @@ Exit status:
   1  ptk: image IMAGE fault N (see 'ptk check --help'), ptk: image IMAGE too long SECTION: its text, data or
      bss is longer than the 1048576 bytes that a source may have, ptk: missing file NAME, ptk: not text NAME,
      ptk: symbols NAME line L
-  2  usage
+  2  usage; IMAGE and OUT are one file
   3  ptk: read failed NAME, ptk: write failed, ptk: no memory
 
 Example:
@@ -215,9 +215,9 @@ pub(crate) const OLD: &str = "The configuration as it was, a TOML document";
 /// The configuration that is compared.
 pub(crate) const NEW: &str = "The configuration as it is to be, a TOML document";
 
-/// The one partition that is compared.
+/// The one partition that is asked about.
 pub(crate) const ONE_PARTITION: &str =
-    "The name of the one partition to compare; all are where it is left out";
+    "The name of the one partition that is asked about; all are where it is left out";
 
 /// The partitions that have another name.
 pub(crate) const RENAME: &str =
@@ -248,7 +248,8 @@ pub(crate) const FAIL_ON: &str =
     "End with status 4 where a partition is one of these: fault, refused, idle, with commas between them";
 
 /// Whether a run ends early.
-pub(crate) const UNTIL_HALTED: &str = "Stop at the first tick at which every partition has halted";
+pub(crate) const UNTIL_HALTED: &str =
+    "Stop at the first multiple of 1,024 ticks at which every partition has halted";
 
 /// Whether progress is shown.
 pub(crate) const QUIET: &str = "Show no progress";

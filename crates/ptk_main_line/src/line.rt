@@ -79,6 +79,18 @@ pub fn one_file(alloc: Global) -> Result<Error, AllocError>
     )
 }
 
+/// The error of `disasm` where OUT is the image, which would be written over: a usage error. An error where memory runs
+/// out.
+pub fn over_image(alloc: Global) -> Result<Error, AllocError>
+    ensures { IfOk result (λ e. kind_of e ≡ ArgumentConflict) }
+{
+    refusal(
+        alloc,
+        ErrorKind::ArgumentConflict,
+        "IMAGE and OUT are one file",
+    )
+}
+
 /// The error of `trace` where an option chooses what is shown and `--decode` is not given: a usage error. An error
 /// where memory runs out.
 pub fn undecoded(alloc: Global) -> Result<Error, AllocError>
