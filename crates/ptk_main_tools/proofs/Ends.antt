@@ -10,8 +10,8 @@ use Rattle.ptk_main_faults.specs.Statuses.{status_number}
 use Rattle.ptk_main_faults.specs.declared.fault.Fault.{Fault}
 use Rattle.ptk_main_faults.specs.declared.fault.Fault.TheVariants.{WriteFailed}
 use Rattle.ptk_main_faults.specs.declared.status.ExitStatus.TheVariants.{Done}
-use Rattle.ptk_main_tools.specs.Ends.{IsAsmEnd, IsAsmOf, IsAsmOver, IsAsmStatus, IsDisasmEnd, IsEndStatus, IsReadStatus, IsTextStatus}
-use Rattle.ptk_main_tools.specs.Refusals.{IsDisasmFault, IsDisasmRefusal, IsImageTextFault}
+use Rattle.ptk_main_tools.specs.Ends.{IsAsmEnd, IsAsmOf, IsAsmOver, IsAsmStatus, IsDisasmEnd, IsDisasmOf, IsDisasmOver, IsDisasmStatus, IsEndStatus, IsReadStatus, IsTextStatus}
+use Rattle.ptk_main_tools.specs.Refusals.{IsDisasmFault, IsDisasmRefusal, IsImageTextFault, IsOverImage}
 use Rattle.ptk_main_tools.specs.Sources.{AreMixed, IsAsmFault}
 use Rattle.ptk_main_tools.specs.Usage.{IsUsageStatus}
 use Rattle.ptk_main_tools.specs.Written.{Disassembles, IsAssembled, IsDisassembled, WritesFiles}
@@ -65,9 +65,9 @@ asm_end finds reads writes options old new status mixed (inr apart) = (mixed, in
 -- ---- `disasm`
 
 -- the text that was written is one of an image
-pub disassembled_by : {F : Type 0} (reads : List ℕ → Option (List ℕ) → Type 0) (writes : F → List ℕ → List ℕ → F → Type 0) (options : DisasmOptions) (before after : F) (old new : Option (List ℕ)) (outcome : Result (Unit {0}) Fault)
-    → OnOk outcome (Disassembles reads writes options before after old new) → OnOk outcome (IsDisassembled options old new)
-disassembled_by reads writes options before after old new (Ok u) done = record {
+disassembled : {F : Type 0} (reads : List ℕ → Option (List ℕ) → Type 0) (writes : F → List ℕ → List ℕ → F → Type 0) (options : DisasmOptions) (before after : F) (old new : Option (List ℕ))
+    → Disassembles reads writes options before after old new → IsDisassembled options old new
+disassembled reads writes options before after old new done = record {
   bytes = done.bytes;
   symbols = done.written.symbols;
   named = record { bytes = done.names; unnamed = unnamed reads options.symbols done.names done.named; table = done.written.table };
@@ -75,6 +75,10 @@ disassembled_by reads writes options before after old new (Ok u) done = record {
   is = done.written.is;
   shown = done.written.shown;
 }
+
+pub disassembled_by : {F : Type 0} (reads : List ℕ → Option (List ℕ) → Type 0) (writes : F → List ℕ → List ℕ → F → Type 0) (options : DisasmOptions) (before after : F) (old new : Option (List ℕ)) (outcome : Result (Unit {0}) Fault)
+    → OnOk outcome (Disassembles reads writes options before after old new) → OnOk outcome (IsDisassembled options old new)
+disassembled_by reads writes options before after old new (Ok u) done = disassembled reads writes options before after old new done
 disassembled_by reads writes options before after old new (Err fault) done = tt
 
 -- its fault is one of the request
@@ -88,9 +92,22 @@ disasm_refused reads options fault (inl (inl image)) = inr (inl image.0)
 disasm_refused reads options fault (inl (inr symbols)) = inr (inr (inl (inl (named_unread reads options.symbols fault symbols))))
 disasm_refused reads options fault (inr text) = text_refused options text.0 text.1 fault text.4
 
--- the status, where a refusal leaves the writer as it was
-pub disasm_ended : {W : Type 0} (contents : W → Option (List ℕ)) (options : DisasmOptions) (outcome : Result (Unit {0}) Fault) (old new : W) (status : ℕ)
-    → OnOk outcome (IsDisassembled options (contents old) (contents new)) → IfErr outcome (IsDisasmFault options) → IfErr outcome (λ fault. fault ≢ WriteFailed → new ≡ old)
-    → OnOk outcome (status ≡ status_number Done) → IfErr outcome (λ fault. status ≡ status_number (status_of fault)) → IsDisasmEnd options (contents old) (contents new) status
-disasm_ended contents options (Ok u) old new status holds refused silent done failed = inl (done, holds)
-disasm_ended contents options (Err fault) old new status holds refused silent done failed = inr (fault, (refused, λ other. ap contents (silent other)), failed)
+-- the status of the text, where a refusal leaves the writers as they were
+pub disasm_ended : {F W : Type 0} (contents : W → Option (List ℕ)) (reads : List ℕ → Option (List ℕ) → Type 0) (writes : F → List ℕ → List ℕ → F → Type 0) (options : DisasmOptions) (outcome : Result (Unit {0}) Fault) (before after : F) (old new : W) (status : ℕ)
+    → OnOk outcome (Disassembles reads writes options before after (contents old) (contents new)) → IfErr outcome (IsDisasmRefusal reads options) → IfErr outcome (λ fault. fault ≢ WriteFailed → (after ≡ before) × (new ≡ old))
+    → OnOk outcome (status ≡ status_number Done) → IfErr outcome (λ fault. status ≡ status_number (status_of fault)) → IsDisasmOf reads writes options before after (contents old) (contents new) status
+disasm_ended contents reads writes options (Ok u) before after old new status holds refused silent done failed = inl (done, holds)
+disasm_ended contents reads writes options (Err fault) before after old new status holds refused silent done failed =
+    inr (fault, (refused, λ other. ((silent other).0, ap contents (silent other).1)), failed)
+
+-- that of a text as it was read is that of some text
+disasm_read : {F : Type 0} (reads : List ℕ → Option (List ℕ) → Type 0) (writes : F → List ℕ → List ℕ → F → Type 0) (options : DisasmOptions) (before after : F) (old new : Option (List ℕ)) (status : ℕ)
+    → IsDisasmOf reads writes options before after old new status → IsDisasmStatus options old new status
+disasm_read reads writes options before after old new status (inl done) = inl (done.0, disassembled reads writes options before after old new done.1)
+disasm_read reads writes options before after old new status (inr failed) =
+    inr (failed.0, (disasm_refused reads options failed.0 failed.1.0, λ other. (failed.1.1 other).1), failed.2)
+
+pub disasm_end : {F : Type 0} (finds : List ℕ → List ℕ → Bool → Type 0) (reads : List ℕ → Option (List ℕ) → Type 0) (writes : F → List ℕ → List ℕ → F → Type 0) (options : DisasmOptions) (before after : F) (old new : Option (List ℕ)) (status : ℕ)
+    → (IsOverImage options → IsUsageStatus status) → IsDisasmOver finds reads writes options before after old new status → IsDisasmEnd options old new status
+disasm_end finds reads writes options before after old new status over (inl one) = (over, inl (one.1, one.3))
+disasm_end finds reads writes options before after old new status over (inr apart) = (over, inr (disasm_read reads writes options before after old new status apart.1))

@@ -10,10 +10,10 @@ use Rattle.ptk_main_faults.specs.declared.fault.Fault.{Fault}
 use Rattle.ptk_main_faults.specs.declared.fault.Fault.TheVariants.{WriteFailed}
 use Rattle.ptk_main_faults.specs.declared.status.ExitStatus.TheVariants.{Done}
 use Rattle.ptk_main_tools.specs.Reading.{IsTextFault, IsUnreadText}
-use Rattle.ptk_main_tools.specs.Refusals.{IsDisasmFault}
+use Rattle.ptk_main_tools.specs.Refusals.{IsApartFromImage, IsDisasmFault, IsDisasmRefusal, IsOneWithImage, IsOverImage}
 use Rattle.ptk_main_tools.specs.Sources.{AreApart, AreMixed, AreOne, IsAsmFault}
 use Rattle.ptk_main_tools.specs.Usage.{IsUsageStatus}
-use Rattle.ptk_main_tools.specs.Written.{IsAssembled, IsDisassembled}
+use Rattle.ptk_main_tools.specs.Written.{Disassembles, IsAssembled, IsDisassembled}
 
 -- ---- the end of a request
 
@@ -31,7 +31,7 @@ IsEndStatus P Q status = ((status ≡ status_number Done) × P) ⊎ IsFaultStatu
 abbrev pub IsTextStatus : (Fault → Type 0) → Bor (List ℕ) → (List ℕ → ℕ → Type 0) → ℕ → Type 0
 IsTextStatus Q name P status = IsFaultStatus (λ fault. IsTextFault name fault × Q fault) status ⊎ ((bytes : List ℕ) × P bytes status)
 
--- the file of this name is not read as text, and this holds, or it is so with the text that it was read as (own)
+-- the status is that of a fault of the file of this name that is not read as text, where a further statement holds, or it is as it has to be with the text that the file was read as (own)
 abbrev pub IsReadStatus : (List ℕ → Option (List ℕ) → Type 0) → Type 0 → Bor (List ℕ) → (List ℕ → ℕ → Type 0) → ℕ → Type 0
 IsReadStatus reads Q name P status =
     IsFaultStatus (λ fault. IsUnreadText reads name fault × Q) status ⊎ ((bytes : List ℕ) × reads name.now (Some bytes) × P bytes status)
@@ -46,10 +46,15 @@ IsAsmStatus bytes status = IsEndStatus (IsOk (source bytes)) (IsAsmFault bytes) 
 abbrev pub IsAsmEnd : AsmOptions → ℕ → Type 0
 IsAsmEnd options status = (AreMixed options → IsUsageStatus status) × (IsUsageStatus status ⊎ IsTextStatus (λ _. Unit {0}) options.source IsAsmStatus status)
 
--- `disasm`: done only where there is a text of an image, and where no file is named only where it is written; by a fault other than a failed write nothing is written (own)
+-- the text of an image: done only where there is one, and where no file is named only where it is written; by a fault other than a failed write nothing is written (own)
+abbrev pub IsDisasmStatus : DisasmOptions → Option (List ℕ) → Option (List ℕ) → ℕ → Type 0
+IsDisasmStatus options old new status =
+    IsEndStatus (IsDisassembled options old new) (λ fault. IsDisasmFault options fault × (fault ≢ WriteFailed → new ≡ old)) status
+
+-- `disasm`: a usage error where the text's file has the words of the image's, and else by the text, unless the two are one; by a usage error nothing is written (own)
 abbrev pub IsDisasmEnd : DisasmOptions → Option (List ℕ) → Option (List ℕ) → ℕ → Type 0
 IsDisasmEnd options old new status =
-    IsEndStatus (IsDisassembled options old new) (λ fault. IsDisasmFault options fault × (fault ≢ WriteFailed → new ≡ old)) status
+    (IsOverImage options → IsUsageStatus status) × ((IsUsageStatus status × (new ≡ old)) ⊎ IsDisasmStatus options old new status)
 
 -- ---- asm over any files
 
@@ -63,3 +68,16 @@ abbrev pub IsAsmOver : {F : Type 0} → (List ℕ → List ℕ → Bool → Type
 IsAsmOver finds reads writes options old new status =
     (AreOne finds options × IsUsageStatus status × (new ≡ old))
     ⊎ (AreApart finds options × IsReadStatus reads (new ≡ old) options.source (IsAsmOf writes options old new) status)
+
+-- ---- disasm over any files
+
+-- the text of an image as it was read: done only where it is written, and else by its fault; by one other than a failed write nothing is written (own)
+abbrev pub IsDisasmOf : {F : Type 0} → (List ℕ → Option (List ℕ) → Type 0) → (F → List ℕ → List ℕ → F → Type 0) → DisasmOptions → F → F → Option (List ℕ) → Option (List ℕ) → ℕ → Type 0
+IsDisasmOf reads writes options before after old new status =
+    IsEndStatus (Disassembles reads writes options before after old new) (λ fault. IsDisasmRefusal reads options fault × (fault ≢ WriteFailed → (after ≡ before) × (new ≡ old))) status
+
+-- a usage error where the text's file was found to be the image's, and nothing is written then; and else by the text (own)
+abbrev pub IsDisasmOver : {F : Type 0} → (List ℕ → List ℕ → Bool → Type 0) → (List ℕ → Option (List ℕ) → Type 0) → (F → List ℕ → List ℕ → F → Type 0) → DisasmOptions → F → F → Option (List ℕ) → Option (List ℕ) → ℕ → Type 0
+IsDisasmOver finds reads writes options before after old new status =
+    (IsOneWithImage finds options × IsUsageStatus status × (after ≡ before) × (new ≡ old))
+    ⊎ (IsApartFromImage finds options × IsDisasmOf reads writes options before after old new status)

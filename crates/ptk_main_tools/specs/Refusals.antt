@@ -1,5 +1,5 @@
 -- Why a file has no disassembly.
-use Rattle.std.specs.Prelude.{◌≡◌, ℕ, List, Option, Some, Result, Ok, Err, ◌⊎◌}
+use Rattle.std.specs.Prelude.{◌≡◌, ℕ, Bool, true, false, List, Option, Some, Result, Ok, Err, ◌⊎◌, IfSome, IsSomeAnd}
 use Rattle.std.specs.Borrow.{Bor}
 use Rattle.ptk_words.specs.Image.{ImageParts, image_of}
 use Rattle.ptk_words.specs.declared.faults.ImageFault.{ImageFault}
@@ -11,6 +11,22 @@ use Rattle.ptk_main_faults.specs.Lines.{image_fault}
 use Rattle.ptk_main_faults.specs.declared.fault.Fault.{Fault}
 use Rattle.ptk_main_faults.specs.declared.fault.Fault.TheVariants.{TooLong, WriteFailed, NoMemory}
 use Rattle.ptk_main_tools.specs.Reading.{IsNamedText, IsReadFault, IsSymbolsFault, IsSymbolsFileFault, IsUnreadFile, IsUnreadNamed}
+
+-- ---- the files
+
+-- the text's file has the words of the image's (own)
+abbrev pub IsOverImage : DisasmOptions → Type 0
+IsOverImage options = IsSomeAnd options.target (λ target. options.image.now ≡ target.now)
+
+-- the text's file and the image's were found to be one; `finds` says of two paths that they are one file, or are not (own)
+abbrev pub IsOneWithImage : (List ℕ → List ℕ → Bool → Type 0) → DisasmOptions → Type 0
+IsOneWithImage finds options = IsSomeAnd options.target (λ target. finds options.image.now target.now true)
+
+-- the text's file, if one is named, was found to be another than the image's (own)
+abbrev pub IsApartFromImage : (List ℕ → List ℕ → Bool → Type 0) → DisasmOptions → Type 0
+IsApartFromImage finds options = IfSome options.target (λ target. finds options.image.now target.now false)
+
+-- ---- the text
 
 -- the fault of a file of this name with this outcome of its bytes: of what is no image its refusal; of an image that a section is longer than a source may have it, or that memory ran out (own)
 abbrev pub HasNoSource : Bor (List ℕ) → Result ImageParts ImageFault → Fault → Type 0

@@ -1,26 +1,78 @@
 //! `disasm`: the assembler text of an image.
 
-ghost use Rattle.std.specs.Prelude.{◌≡◌, ◌≢◌, Ok, IfOk, IfErr, OnOk, string_bytes};
+ghost use Rattle.std.specs.Prelude.{◌≡◌, ◌≢◌, false, Ok, IfOk, IfErr, IsTrue, OnOk, string_bytes};
 ghost use Rattle.std.specs.Io.KnownBytes.{Appends};
 ghost use Rattle.ptk_words.specs.Image.{ImageParts, image_of};
 ghost use Rattle.ptk_asm_language.specs.Source.{source};
-ghost use Rattle.ptk_main_tools.specs.Refusals.{HasNoSource, IsDisasmFault, IsDisasmRefusal, IsImageTextFault};
+ghost use Rattle.ptk_main_tools.specs.Ends.{IsDisasmEnd, IsDisasmOver};
+ghost use Rattle.ptk_main_tools.specs.Refusals.{HasNoSource, IsApartFromImage, IsDisasmFault, IsDisasmRefusal, IsImageTextFault, IsOneWithImage, IsOverImage};
+ghost use Rattle.ptk_main_tools.specs.Usage.{IsUsageStatus};
 ghost use Rattle.ptk_main_tools.specs.Written.{Disassembles, IsDisassembled, IsShown, IsTextOf, WritesSource, WritesText};
 
 use crate::files::{FileReader, FileWriter, HostFiles};
 use crate::reading::{symbols_of, symbols_text_by};
+use crate::telling::{end, tell, usage};
 use ptk_disasm::{DisasmFault, disassemble_with};
 use ptk_image::read_image;
 use ptk_main_faults::Fault;
-use ptk_main_line::DisasmOptions;
+use ptk_main_line::{DisasmOptions, over_image};
 use ptk_symbols::Symbols;
 use std::alloc::Global;
 use std::io::Write;
 
+/// Writes the text of the image in a file, as `disasm_file` does, and gives the number of the status. Nothing is
+/// written where the text's file is that of the image.
+pub fn disasm<W: Write>(rt: &HostRuntime, options: DisasmOptions<'_>, out: &mut W) -> u8
+    ensures { IsDisasmEnd options.entry (W.contents out.old) (W.contents out.new) result }
+{
+    let files = &mut HostFiles::of(rt);
+    disasm_apart(rt, options, &HostFiles::of(rt), files, out)
+}
+
+// Writes the text of the image as `disasm_by` does, where its file is not that of the image, and gives the number of
+// the status.
+fn disasm_apart<R: FileReader, F: FileWriter, W: Write>(
+    rt: &HostRuntime,
+    options: DisasmOptions<'_>,
+    reader: &R,
+    files: &mut F,
+    out: &mut W,
+) -> u8
+    ensures over { IsOverImage options.entry → IsUsageStatus result }
+    ensures whole { IsDisasmOver (R.finds reader.now) (R.reads reader.now) F.writes options.entry files.old files.new (W.contents out.old) (W.contents out.new) result }
+{
+    if is_over_image(reader, options) {
+        return refuse_over(rt);
+    }
+    end(rt, disasm_by(rt, options, reader, files, out))
+}
+
+// Whether the text's file is that of the image.
+fn is_over_image<R: FileReader>(reader: &R, options: DisasmOptions<'_>) -> bool
+    ensures same { IsOverImage options.entry → IsTrue result }
+    ensures one { IsTrue result → IsOneWithImage (R.finds reader.now) options.entry }
+    ensures apart { result ≡ false → IsApartFromImage (R.finds reader.now) options.entry }
+{
+    match options.target {
+        Some(target) => reader.is_one_file(options.image, target),
+        None => false,
+    }
+}
+
+// The status of a command line of which the text's file is that of the image.
+fn refuse_over(rt: &HostRuntime) -> u8
+    ensures { IsUsageStatus result }
+{
+    match over_image(rt.alloc()) {
+        Ok(error) => usage(rt, &error),
+        Err(_) => tell(rt, &Fault::NoMemory),
+    }
+}
+
 /// The text of the image in a file, with the names of the symbols in another where one is named, into a third file, or
 /// to `out` where none is named. Nothing is written where the image or the symbols are refused. A fault where a file
 /// can't be read, the image or a symbol is refused, memory ran out, or the text can't be written.
-pub fn disasm<'a, W: Write>(
+pub fn disasm_file<'a, W: Write>(
     rt: &HostRuntime,
     options: DisasmOptions<'a>,
     out: &mut W,

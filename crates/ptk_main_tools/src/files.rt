@@ -8,7 +8,7 @@ use ptk_main_faults::Fault;
 use std::fs;
 
 /// Who reads files.
-pub(crate) trait FileReader {
+pub trait FileReader {
     /// The file of a path was read as these bytes, or is not there. The default says nothing.
     ghost reads: { Self → List ℕ → Option (List ℕ) → Type 0 } = { λ _ _ _. Unit {0} };
 
@@ -42,13 +42,13 @@ pub(crate) trait FileWriter {
 
 /// The host's files.
 #[derive(Drop)]
-pub(crate) struct HostFiles<'r> {
+pub struct HostFiles<'r> {
     rt: &'r HostRuntime,
 }
 
 impl<'r> HostFiles<'r> {
     /// The files of this host.
-    pub(crate) fn of(rt: &'r HostRuntime) -> HostFiles<'r> {
+    pub fn of(rt: &'r HostRuntime) -> HostFiles<'r> {
         HostFiles { rt }
     }
 }

@@ -20,7 +20,9 @@
 //! - `disasm` is done only where there is a text of an image with the names of symbols, which is the definition's
 //!   (`disassembled_with`) and a source of that image; of bytes that are no image the fault is that of the format
 //!   (`text_of`). The image and the symbols are what their files were read as, and the text is written into the file
-//!   that is named, and else on the writer (`disasm_by`). Where it fails before, nothing is written.
+//!   that is named, and else on the writer (`disasm_by`). Where it fails before, nothing is written. It is a usage
+//!   error where the text's file has the words of the image's, and else only where the two were found to be one;
+//!   nothing is written then (`disasm_apart`).
 //! - All this is so over any reader and any writer of files. `text_in`, `config_in`, `symbols_text_in`, `images_of`,
 //!   `asm` and `disasm` each hand what they are given to one of these functions, with the host's files: that they do
 //!   so, and what the host then reads and writes, is tested. That what goes to standard error, and the text of a
@@ -38,9 +40,11 @@ mod reading;
 mod telling;
 
 pub use assembling::{asm, put_place};
-pub use disassembling::disasm;
+pub use disassembling::{disasm, disasm_file};
+pub use files::{FileReader, HostFiles};
 pub use ptk_image::Files;
 pub use reading::{
-    bytes_in, config_in, config_of, images_of, symbols_of, symbols_text_in, text_in,
+    bytes_in, config_by, config_in, config_of, images_by, images_of, symbols_of, symbols_text_in,
+    text_in,
 };
 pub use telling::{end, tell, unread, usage};

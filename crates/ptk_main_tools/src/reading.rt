@@ -74,8 +74,9 @@ pub fn config_in<'a>(rt: &HostRuntime, name: &'a str) -> Result<Config, Fault<'a
     config_by(rt, &HostFiles::of(rt), name)
 }
 
-// The configuration in the file of this name as this reader has it.
-fn config_by<'a, R: FileReader>(
+/// The configuration in the file of this name as this reader has it. A fault where the file can't be read, is no text,
+/// or states no configuration.
+pub fn config_by<'a, R: FileReader>(
     rt: &HostRuntime,
     reader: &R,
     name: &'a str,
@@ -151,8 +152,8 @@ pub fn images_of<'a>(
     images_by(&HostFiles::of(rt), rt.alloc(), config, root)
 }
 
-// The images that the sections name, each as this reader has it.
-fn images_by<'a, R: FileReader>(
+/// The images that the sections name, as `images_of` looks them up, each as this reader has it.
+pub fn images_by<'a, R: FileReader>(
     reader: &R,
     alloc: Global,
     config: &'a Config,
