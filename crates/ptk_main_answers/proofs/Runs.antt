@@ -1,7 +1,8 @@
 -- Where a run ends.
-use Rattle.std.proofs.Common.{◌≡◌, ◌∙◌, ◌+◌, ◌*◌, ◌<◌, ◌≤◌, ℕ, List, Option, false, inl, inr, refl, sym, ap, subst, arith, min, rules, Bool, true, Result, Ok, Err}
-use Rattle.std.specs.Prelude.{◌⊎◌, ◌↔◌, IfErr, IsErrAnd, IsTrue, if◌then◌else◌, length}
-use Rattle.std.proofs.lemmas.Bool.{cases_order}
+use Rattle.std.proofs.Common.{◌≡◌, ◌∙◌, ◌+◌, ◌*◌, ◌/◌, ◌<◌, ◌≤◌, ℕ, List, Option, false, inl, inr, refl, sym, ap, subst, arith, max, min, rules, Bool, true, Result, Ok, Err}
+use Rattle.std.specs.Prelude.{◌⊎◌, ◌↔◌, IfErr, IsErrAnd, IsTrue, length}
+use Rattle.std.proofs.Math.Nat.{div-mul-le_self, lt-div-mul-add}
+use Rattle.std.proofs.lemmas.Bool.{cases_lt, cases_order}
 use Rattle.ptk_config.specs.Configuration.{Configuration}
 use Rattle.ptk_image.specs.NamedFiles.{NamedFile}
 use Rattle.std.specs.Borrow.{Bor}
@@ -10,11 +11,12 @@ use Rattle.ptk_main_faults.specs.declared.fault.Fault.{Fault}
 use Rattle.ptk_main_faults.specs.declared.fault.Fault.TheVariants.{FailedOn}
 use Rattle.ptk_main_faults.specs.declared.fault.FailureKind.{FailureKind}
 use Rattle.ptk_main_faults.specs.Told.{text}
+use Rattle.ptk_words_model.specs.State.{State}
 use Rattle.ptk_main_runs.specs.Told.{is_halted, status_in}
 use Rattle.ptk_main_runs.specs.World.{World, at_tick, state_of, world_at}
-use Rattle.ptk_main_answers.specs.Expectations.{AreHalted, IsEnd, IsFailed, IsFailedOn, IsFailure, IsHaltLook, IsNoFailure, IsOnWay, IsPassed, IsReported, IsUnlike}
+use Rattle.ptk_main_answers.specs.Expectations.{AreHalted, AreStill, IsEnd, IsFailed, IsFailedOn, IsFailure, IsHaltLook, IsNextStop, IsNoFailure, IsOnWay, IsPassed, IsReported, IsUnlike}
 use Rattle.ptk_main_answers.specs.Images.{part_name}
-use Rattle.ptk_main_answers.specs.Watching.{HasWatched}
+use Rattle.ptk_main_answers.specs.Watching.{HasWatched, WasWatched}
 use Rattle.ptk_main_answers.specs.declared.run.RunQuestion.{RunQuestion}
 use Rattle.ptk_main_answers.specs.declared.run.TheConstants.{HALT_STRIDE, WATCH_STRIDE}
 
@@ -41,44 +43,68 @@ way_begins until_halted last w begun = record {
 look_on : (tick stride n : ℕ) → IsHaltLook tick → stride ≡ n * HALT_STRIDE → IsHaltLook (tick + stride)
 look_on tick stride n at is = (at.0 + n, omega (arith, at.1, is))
 
--- a multiple before the next one is before this one, or is this one
-this_or_before : (tick k : ℕ) → IsHaltLook tick → k * HALT_STRIDE < tick + HALT_STRIDE → (k * HALT_STRIDE < tick) ⊎ (k * HALT_STRIDE ≡ tick)
-this_or_before tick k at before = elim (cases_order k at.0) [
-  | inl same ↦ inr (ap (λ (n : ℕ). n * HALT_STRIDE) same ∙ sym at.1)
-  | inr order ↦ elim order [ inl earlier ↦ inl (omega (arith, earlier, at.1)) | inr later ↦ absurd (omega (arith, later, before, at.1)) ]
-]
+-- where nothing changes up to a tick, every partition has halted there only if it has here
+halted_still : (w : World) (k : ℕ) → w.tick ≤ k → AreStill w k → AreHalted (at_tick k w) → AreHalted w
+halted_still w k on still halted = λ q lt. ap (λ (s : State). is_halted (status_in s.part)) (sym (still q lt k on (omega arith))) ∙ halted q lt
 
--- where not every partition has halted, that is so up to the next multiple
-none_before : (start old new : World) → IsHaltLook old.tick → ((k : ℕ) → k * HALT_STRIDE < old.tick → ¬ AreHalted (at_tick (k * HALT_STRIDE) old)) → ¬ AreHalted old → old ≡ at_tick old.tick start
-    → new ≡ at_tick new.tick old → new.tick ≤ old.tick + HALT_STRIDE → (k : ℕ) → k * HALT_STRIDE < new.tick → ¬ AreHalted (at_tick (k * HALT_STRIDE) new)
-none_before start old new at before here is run far k under halted =
+-- a run that goes on by WATCH_STRIDE
+pub stops_far : (until_halted : Bool) (last stop : ℕ) (w : World) → until_halted ≡ false → IsHaltLook w.tick → w.tick < last → stop ≡ min last (w.tick + WATCH_STRIDE) → IsNextStop until_halted last w stop
+stops_far until_halted last stop w unasked at early is = record {
+  later = omega (arith, early, is);
+  within = omega (arith, is);
+  soon = omega (arith, is);
+  look = λ short.
+      let to : w.tick + WATCH_STRIDE ≡ stop = omega (arith, short, is) in
+      subst IsHaltLook to (look_on w.tick WATCH_STRIDE 1024 at (omega arith));
+  passed = λ asked k on under halted. absurd (clash until_halted asked unasked);
+  far = λ asked k within still. absurd (clash until_halted asked unasked);
+  unasked = λ h. is;
+}
+
+-- a run that goes over the multiples up to which nothing changes
+pub stops_still : (until_halted : Bool) (last end still near stop : ℕ) (w : World) → until_halted ≡ true → IsHaltLook w.tick → w.tick < last → end ≡ min last (w.tick + WATCH_STRIDE) → still ≤ end → AreStill w still
+    → ((k : ℕ) → k ≤ end → AreStill w k → k ≤ still) → near ≡ min last (w.tick + HALT_STRIDE) → stop ≡ max near (still / HALT_STRIDE * HALT_STRIDE) → IsNextStop until_halted last w stop
+stops_still until_halted last end still near stop w asked at early is within stay latest next to =
+    let whole : ℕ = still / HALT_STRIDE in
+    let below : whole * HALT_STRIDE ≤ still = div-mul-le_self still HALT_STRIDE in
+    let close : still < whole * HALT_STRIDE + HALT_STRIDE = lt-div-mul-add (omega arith) in
+    record {
+      later = omega (arith, early, next, to);
+      within = omega (arith, is, within, below, next, to);
+      soon = omega (arith, is, within, below, next, to);
+      look = λ short. elim (cases_lt near (whole * HALT_STRIDE)) [
+        | inl farther ↦ (whole, omega (arith, farther, to))
+        | inr nearer ↦
+            let one : w.tick + HALT_STRIDE ≡ stop = omega (arith, nearer, short, next, to) in
+            subst IsHaltLook one (look_on w.tick HALT_STRIDE 1 at (omega arith))
+      ];
+      passed = λ h k on under halted.
+          let before : at.0 < k = omega (arith, on, at.1) in
+          let behind : k < whole = omega (arith, before, at.1, under, next, to) in
+          let there : k * HALT_STRIDE ≤ still = omega (arith, behind, below) in
+          halted_still w (k * HALT_STRIDE) (omega (arith, on)) (λ q lt j from j_within. stay q lt j from (omega (arith, j_within, there))) halted;
+      far = λ h k k_within k_still. omega (arith, latest k (omega (arith, k_within, is)) k_still, close, to);
+      unasked = λ h. absurd (clash until_halted asked h);
+    }
+
+-- where not every partition has halted, that is so up to the next stop
+none_before : (until_halted : Bool) (last : ℕ) (start old new : World) → IsOnWay until_halted last old → ¬ (IsTrue until_halted × AreHalted old) → old ≡ at_tick old.tick start
+    → new ≡ at_tick new.tick old → IsNextStop until_halted last old new.tick → IsTrue until_halted → (k : ℕ) → k * HALT_STRIDE < new.tick → ¬ AreHalted (at_tick (k * HALT_STRIDE) new)
+none_before until_halted last start old new way going is run next asked k under halted =
     let there : AreHalted (at_tick (k * HALT_STRIDE) old) = subst AreHalted (ap (at_tick (k * HALT_STRIDE)) run) halted in
-    elim (this_or_before old.tick k at (omega (arith, under, far))) [
-      | inl earlier ↦ before k earlier there
-      | inr same ↦ here (subst AreHalted (ap (λ (n : ℕ). at_tick n old) same ∙ (ap (at_tick old.tick) is ∙ sym is)) there)
+    elim (cases_order (k * HALT_STRIDE) old.tick) [
+      | inl same ↦ going (asked, subst AreHalted (ap (λ (n : ℕ). at_tick n old) same ∙ (ap (at_tick old.tick) is ∙ sym is)) there)
+      | inr order ↦ elim order [ inl earlier ↦ way.first asked k earlier there | inr later ↦ going (asked, next.passed asked k later under there) ]
     ]
 
--- a run that is not over goes on to the next multiple, or to the last tick
-pub way_on : (until_halted : Bool) (last stride : ℕ) (start old new : World) → IsOnWay until_halted last old → old.tick < last → ¬ (IsTrue until_halted × AreHalted old) → old ≡ at_tick old.tick start
-    → new ≡ at_tick new.tick old → new.tick ≡ min (old.tick + stride) last → stride ≡ (if until_halted then HALT_STRIDE else WATCH_STRIDE) → IsOnWay until_halted last new
-way_on true last stride start old new way early going is run reached one =
-    let far : stride ≡ HALT_STRIDE = one in
-    record {
-      within = omega (arith, reached);
-      look = λ short.
-          let to : old.tick + stride ≡ new.tick = omega (arith, short, reached) in
-          subst IsHaltLook to (look_on old.tick stride 1 (way.look early) (omega (arith, far)));
-      first = λ asked. none_before start old new (way.look early) (way.first asked) (λ halted. going (asked, halted)) is run (omega (arith, reached, far));
-    }
-way_on false last stride start old new way early going is run reached one =
-    let far : stride ≡ WATCH_STRIDE = one in
-    record {
-      within = omega (arith, reached);
-      look = λ short.
-          let to : old.tick + stride ≡ new.tick = omega (arith, short, reached) in
-          subst IsHaltLook to (look_on old.tick stride 1024 (way.look early) (omega (arith, far)));
-      first = λ asked k under halted. absurd (clash false asked refl);
-    }
+-- a run that is not over goes on to its next stop
+pub way_on : (until_halted : Bool) (last : ℕ) (start old new : World) → IsOnWay until_halted last old → ¬ (IsTrue until_halted × AreHalted old) → old ≡ at_tick old.tick start
+    → new ≡ at_tick new.tick old → IsNextStop until_halted last old new.tick → IsOnWay until_halted last new
+way_on until_halted last start old new way going is run next = record {
+  within = next.within;
+  look = next.look;
+  first = none_before until_halted last start old new way going is run next;
+}
 
 -- ---- at the end
 
@@ -98,7 +124,7 @@ passed_at question config files booted w old new boot run end reported partition
 -- who watched a booted system that went on has watched it from the first tick
 pub watched_at : {V : Type 0} (sees : V → ℕ → ℕ → V → Type 0) (question : RunQuestion) (config : Configuration) (files : List NamedFile) (booted w : World) (before after : V) → booted ≡ world_at config files 0
     → w ≡ at_tick w.tick booted → IsEnd question.until_halted question.ticks w → (ticks : List ℕ) × HasWatched sees question.ticks booted.tick w.tick ticks before after
-    → (n : ℕ) × IsEnd question.until_halted question.ticks (world_at config files n) × (ticks : List ℕ) × HasWatched sees question.ticks 0 n ticks before after
+    → WasWatched sees question config files before after
 watched_at sees question config files booted w before after boot run end seen =
     let first : booted.tick ≡ 0 = ap (λ (u : World). u.tick) boot in (
       w.tick,

@@ -1,4 +1,5 @@
--- In a run each step of a trace began before the tick that was reached, so that its line is read as that step.
+-- In a run each step of a trace began before the tick that was reached. So its line is read as that step, since it has
+-- the numbers of a step.
 use Rattle.std.proofs.Common.{◌≡◌, ◌∙◌, ℕ, zero, suc, ◌+◌, ◌-◌, ◌<◌, ◌≤◌, Bool, true, false, List, [], ◌++◌, length, get_or, refl, sym, ap, subst, arith}
 use Rattle.std.specs.Prelude.{All, Option, Some, None, ◌&&◌, if◌then◌else◌, nat_le, nat_lt, option_to_list, unwrap_or}
 use Rattle.std.specs.Io.KnownBytes.{Appends}
@@ -20,10 +21,11 @@ use Rattle.ptk_words_model.specs.Text.{trace_text}
 use Rattle.ptk_words_model.specs.Run.{accounted, after_tick_until, alone, decided, is_at, last_of}
 use Rattle.ptk_config.specs.Configuration.{Configuration}
 use Rattle.ptk_image.specs.NamedFiles.{NamedFile}
+use Rattle.ptk_main_runs.specs.KeptSteps.{IsStep}
 use Rattle.ptk_main_runs.specs.Missing.{image_in}
 use Rattle.ptk_main_runs.specs.World.{World, section_at, state_of, world_at}
 use Rattle.ptk_main_runs.proofs.Keeping.{alone_at}
-use Rattle.ptk_main_answers.specs.TraceLines.{IsStep, IsTraced}
+use Rattle.ptk_main_answers.specs.TraceLines.{IsTraced}
 use Rattle.ptk_main_answers.specs.Worded.{PutsWords, worded_text}
 use Rattle.ptk_main_answers.specs.declared.filter.Filter.{Filter}
 
@@ -80,7 +82,7 @@ alone_before : (ticks : OwnTicks) (l : Limits) (image : Option (List ℕ)) (inpu
 alone_before ticks l image input zero = All-nil (IsBefore zero)
 alone_before ticks l image input (suc n) = tick_before (ticks.end_at n) ticks l n (alone ticks l image input n) (alone_before ticks l image input n)
 
--- so a trace has only steps that it may have, if each has the numbers of a step
+-- so a trace has only steps that it may have, since each has the numbers of a step
 run_traced : (config : Configuration) (files : List NamedFile) (ticks p : ℕ) → p < length config.sections → ticks ≤ LAST_TICK
     → All IsStep (state_of (world_at config files ticks) p).account.trace → All IsTraced (state_of (world_at config files ticks) p).account.trace
 run_traced config files ticks p within early steps =
@@ -94,10 +96,10 @@ run_traced config files ticks p within early steps =
 -- what is written of the lines of a run's trace
 pub trace_put : (filter : Filter) (symbols : List (ℕ × List ℕ)) (config : Configuration) (files : List NamedFile) (ticks p q : ℕ) (named : Option ℕ) (booted : World) (lines : List ℕ) (old new : Option (List ℕ))
     → ticks ≤ LAST_TICK → q < length config.sections → Some q ≡ named → named ≡ Some p → booted ≡ world_at config files 0
-    → lines ≡ trace_text (state_of (world_at config files ticks) p).account.trace
+    → lines ≡ trace_text (state_of (world_at config files ticks) p).account.trace → All IsStep (state_of (world_at config files ticks) p).account.trace
     → ((steps : List Entry) → All IsTraced steps → lines ≡ trace_text steps → Appends old new (worded_text filter booted q symbols steps))
     → PutsWords filter symbols config files ticks p old new
-trace_put filter symbols config files ticks p q named booted lines old new early within found is begins spelled put = λ steps.
+trace_put filter symbols config files ticks p q named booted lines old new early within found is begins spelled steps put =
     let trace : List Entry = (state_of (world_at config files ticks) p).account.trace in
     let same : q ≡ p = ap (λ (o : Option ℕ). unwrap_or o 0) (found ∙ is) in
     let here : p < length config.sections = subst (λ (k : ℕ). k < length config.sections) same within in

@@ -1,9 +1,9 @@
 -- Whether a run is as it is expected to be.
-use Rattle.std.specs.Prelude.{◌≡◌, ◌≢◌, ◌<◌, ◌≤◌, ◌+◌, ◌*◌, ◌==◌, ◌⊎◌, ℕ, Bool, List, Option, Some, None, IfSome, IsSomeAnd, IsTrue, true, count_by, length, min, slice_get, take, if◌then◌else◌}
+use Rattle.std.specs.Prelude.{◌≡◌, ◌≢◌, ◌<◌, ◌≤◌, ◌+◌, ◌*◌, ◌==◌, ◌⊎◌, ℕ, Bool, List, Option, Some, None, IfSome, IsSomeAnd, IsTrue, false, true, count_by, length, min, slice_get, take, if◌then◌else◌}
 use Rattle.std.specs.Io.KnownBytes.{Appends}
 use Rattle.ptk_main_runs.specs.Shown.{report_of}
 use Rattle.ptk_main_runs.specs.Told.{is_halted, status_in}
-use Rattle.ptk_main_runs.specs.World.{World, at_tick, state_of}
+use Rattle.ptk_main_runs.specs.World.{World, at_tick, but_next, state_of}
 use Rattle.ptk_main_runs.specs.PartStatus.{PartStatus}
 use Rattle.ptk_main_runs.specs.PartStatus.TheVariants as status
 use Rattle.ptk_main_faults.specs.declared.fault.FailureKind.{FailureKind}
@@ -17,7 +17,7 @@ use Rattle.ptk_main_line.specs.declared.requests.Format.TheVariants as form
 use Rattle.ptk_main_answers.specs.Documents.{document_text}
 use Rattle.ptk_main_answers.specs.Images.{part_name}
 use Rattle.ptk_main_answers.specs.declared.run.RunQuestion.{RunQuestion}
-use Rattle.ptk_main_answers.specs.declared.run.TheConstants.{HALT_STRIDE}
+use Rattle.ptk_main_answers.specs.declared.run.TheConstants.{HALT_STRIDE, WATCH_STRIDE}
 
 -- the place is the least at which the lists differ: one of them may end there (own)
 pub record IsFirstOther (xs ys : List ℕ) (place : ℕ) : Type 0 where
@@ -66,6 +66,20 @@ pub record IsOnWay (until_halted : Bool) (last : ℕ) (world : World) : Type 0 w
   pub within : world.tick ≤ last
   pub look : world.tick < last → IsHaltLook world.tick
   pub first : IsTrue until_halted → (k : ℕ) → k * HALT_STRIDE < world.tick → ¬ AreHalted (at_tick (k * HALT_STRIDE) world)
+
+-- nothing of any partition changes from the system's tick on and up to another, but the ticks of the next decisions (own)
+abbrev pub AreStill : World → ℕ → Type 0
+AreStill world to = (p : ℕ) → p < length world.config.sections → (k : ℕ) → world.tick ≤ k → k ≤ to → but_next (state_of (at_tick k world) p) ≡ but_next (state_of world p)
+
+-- where a run to a last tick stops next: at a multiple of HALT_STRIDE, or at the last tick. On request every partition has halted at a multiple that it passes over only if it has here, and where nothing changes up to a tick it comes nearer to that than HALT_STRIDE; else it goes on by WATCH_STRIDE (own)
+pub record IsNextStop (until_halted : Bool) (last : ℕ) (world : World) (stop : ℕ) : Type 0 where
+  pub later : world.tick < stop
+  pub within : stop ≤ last
+  pub soon : stop ≤ world.tick + WATCH_STRIDE
+  pub look : stop < last → IsHaltLook stop
+  pub passed : IsTrue until_halted → (k : ℕ) → world.tick < k * HALT_STRIDE → k * HALT_STRIDE < stop → AreHalted (at_tick (k * HALT_STRIDE) world) → AreHalted world
+  pub far : IsTrue until_halted → (k : ℕ) → k ≤ min last (world.tick + WATCH_STRIDE) → AreStill world k → k < stop + HALT_STRIDE
+  pub unasked : until_halted ≡ false → stop ≡ min last (world.tick + WATCH_STRIDE)
 
 -- it ends there: at the last tick, or on request where every partition has halted, which is the first such multiple (own)
 pub record IsEnd (until_halted : Bool) (last : ℕ) (world : World) : Type 0 where

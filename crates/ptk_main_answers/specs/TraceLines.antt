@@ -1,11 +1,12 @@
 -- Which step a line of a trace has.
-use Rattle.std.specs.Prelude.{ℕ, ◌+◌, ◌<◌, ◌≤◌, ◌^◌, not, ◌||◌, List, length, drop, take_while, ◌==◌, nat_lt, if◌then◌else◌, Option, Some, None, option_and_then, option_map}
+use Rattle.std.specs.Prelude.{ℕ, ◌+◌, ◌<◌, ◌^◌, not, ◌||◌, List, length, drop, take_while, ◌==◌, nat_lt, if◌then◌else◌, Option, Some, None, option_and_then, option_map}
 use Rattle.ptk_words.specs.declared.TheConstants.{LAST_TICK, THREAD_LIMIT}
 use Rattle.ptk_words.specs.declared.sections.Entry.{Entry}
 use Rattle.ptk_words_model.specs.Text.{trace_line}
 use Rattle.ptk_asm_language.specs.Lines.{without_ending}
 use Rattle.ptk_asm_language.specs.Reading.{capped}
 use Rattle.ptk_asm_language.specs.Tokens.{magnitude}
+use Rattle.ptk_main_runs.specs.KeptSteps.{IsStep}
 use Rattle.ptk_main_answers.specs.declared.entries.TheConstants.{BLANK}
 
 -- ---- a step as a line
@@ -13,14 +14,6 @@ use Rattle.ptk_main_answers.specs.declared.entries.TheConstants.{BLANK}
 -- the line of a step without its end (own)
 unfoldable pub step_line : Entry → List ℕ
 step_line e = without_ending (trace_line e)
-
--- the numbers of a step: of a thread that made it, and its pc, its word and its a0, which are words (own)
-pub record IsStep (e : Entry) : Type 0 where
-  pub positive : 0 < e.thread
-  pub in_range : e.thread ≤ THREAD_LIMIT
-  pub pc_fits : e.pc < 2 ^ 32
-  pub word_fits : e.word < 2 ^ 32
-  pub a0_fits : e.a0 < 2 ^ 32
 
 -- a step that a trace may have: one that begins before the last tick (own)
 pub record IsTraced (e : Entry) : Type 0 where

@@ -5,6 +5,7 @@ ghost use Rattle.std.specs.Io.KnownBytes.{Appends};
 ghost use Rattle.ptk_words.specs.declared.TheConstants.{LAST_TICK};
 ghost use Rattle.ptk_words.specs.declared.sections.Entry.{Entry};
 ghost use Rattle.ptk_words_model.specs.Text.{trace_text};
+ghost use Rattle.ptk_main_runs.specs.KeptSteps.{IsStep};
 ghost use Rattle.ptk_main_runs.specs.Missing.{first_missing};
 ghost use Rattle.ptk_main_runs.specs.declared.runs.RunFault.TheVariants.{NoPartition};
 ghost use Rattle.ptk_main_runs.specs.Parts.{part_named};
@@ -87,6 +88,8 @@ fn lines_of(
     requires { ticks ≤ LAST_TICK }
     ensures lines { IfOk result (λ lines. (p : ℕ) → part_named config.now name.now ≡ Some p →
         lines.items ≡ trace_text (state_of (world_at config.now files.now ticks) p).account.trace) }
+    ensures steps { IfOk result (λ _. (p : ℕ) → part_named config.now name.now ≡ Some p →
+        All IsStep (state_of (world_at config.now files.now ticks) p).account.trace) }
     ensures known { OnOk result (IsSome (part_named config.now name.now)) }
     ensures unknown { IfErr result (λ fault. fault ≡ NoPartition → part_named config.now name.now ≡ None) }
     ensures first { IfErr result (λ fault. part_named config.now name.now ≡ None → fault ≡ NoPartition) }

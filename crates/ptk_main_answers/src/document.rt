@@ -96,7 +96,7 @@ pub(crate) fn put_document<W: Write>(
 /// Writes the beginning of the report, up to its partitions. A fault where the writer failed.
 fn put_beginning<W: Write>(tick: u64, out: &mut W) -> Result<(), Fault<'static>>
     ensures written { OnOk result (Appends (W.contents out.old) (W.contents out.new) (document_beginning tick)) }
-    ensures failed { IfErr result IsHostFault }
+    ensures failed { IfErr result (λ fault. fault ≡ Fault.WriteFailed) }
 {
     let outcome = write!(
         out,
@@ -145,7 +145,7 @@ fn put_partition<W: Write>(
 #[tactic(auto, using(crate::proofs::Documents::documents))]
 fn put_comma<W: Write>(p: PartId, out: &mut W) -> Result<(), Fault<'static>>
     ensures written { OnOk result (Appends (W.contents out.old) (W.contents out.new) (comma_if (nat_lt 0 p))) }
-    ensures failed { IfErr result IsHostFault }
+    ensures failed { IfErr result (λ fault. fault ≡ Fault.WriteFailed) }
 {
     if p.index() == 0 {
         return Ok(());
@@ -159,7 +159,7 @@ fn json_of(alloc: Global, system: &System<'_>, p: PartId) -> Result<String, Faul
     requires { p < length system.now.config.sections }
     ensures form { IfOk result (λ text. string_bytes text ≡ print (tokens (string_bytes text))) }
     ensures text { IfOk result (λ text. string_bytes text ≡ part_text system.now p) }
-    ensures failed { IfErr result IsHostFault }
+    ensures failed { IfErr result (λ fault. fault ≡ Fault.NoMemory) }
 {
     let name = part_name(system.config(), p);
     partition_json(
@@ -184,7 +184,7 @@ fn partition_json(
 ) -> Result<String, Fault<'static>>
     ensures form { IfOk result (λ text. string_bytes text ≡ print (tokens (string_bytes text))) }
     ensures text { IfOk result (λ text. string_bytes text ≡ compact_text (partition_data name.now status steps lost (encode_of standard output.now))) }
-    ensures failed { IfErr result IsHostFault }
+    ensures failed { IfErr result (λ fault. fault ≡ Fault.NoMemory) }
 {
     let encoded = STANDARD.encode(alloc, output)?;
     let partition = Partition {

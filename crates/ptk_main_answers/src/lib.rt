@@ -19,16 +19,15 @@
 //! - `difference` is the first byte at which a report is not the expected one, with its line and both bytes, and none
 //!   if and only if they are the same.
 //! - `check_document` writes the answer to a check as JSON: `ok`, or the line of the fault, and the explanation
-//!   (`written`).
+//!   (`written`). Where memory is refused nothing is written (`silent`).
 //! - `explain_with` returns a text's first fault with its place, and writes what `explain` does (`written`).
-//! - Who watches a run has seen ticks of it, each later than the one before and the last one its end (`watched`:
-//!   `HasWatched`).
+//! - Who watches a run has seen ticks of it, each later than the one before by at most 2^20 and the last one its end,
+//!   also where it is not as expected (`watched`, `seen`: `WasWatched`).
 //! - Of a trace in words `shows` is the definition's choice of steps (`is_shown`), and `push_step` appends the
 //!   definition's words of a step (`step_words`): those of its pc and word, and behind an ECALL the call by the state
 //!   before the step and the reply by the state behind it. A line that is a step's is read as that step (`entry_in`:
 //!   `step_line`). So `decoded_trace_with` and `decoded_answer` write the definition's words of the steps of the trace
-//!   (`words`: `worded_text`), where each has the numbers of a step, a thread's and words (`IsStep`): that a trace has
-//!   no others is not proved. An unknown name is refused as by `trace_with`.
+//!   (`words`: `worded_text`). An unknown name is refused as by `trace_with`.
 //!
 //! Each line of a trace in words is as the trace has it; behind two blanks and `#` are the symbol that is nearest to
 //! the step's pc and its instruction as the disassembler spells it; behind an ECALL the call's POSIX name and the name

@@ -1,13 +1,13 @@
 //! The answer to a run.
 
-ghost use Rattle.std.specs.Prelude.{◌≡◌, ◌≢◌, ◌+◌, ◌≤◌, ◌<◌, ◌⊎◌, ◌↔◌, ℕ, List, None, IfErr, IfSome, OnOk, MatchResult, IsTrue, false, min, if◌then◌else◌};
+ghost use Rattle.std.specs.Prelude.{◌≡◌, ◌≢◌, ◌≤◌, ◌<◌, ◌⊎◌, ◌↔◌, ℕ, List, None, IfErr, IfOk, IfSome, OnOk, MatchResult, IsTrue, false};
 ghost use Rattle.std.specs.Io.KnownBytes.{Appends};
 ghost use Rattle.ptk_words.specs.declared.TheConstants.{LAST_TICK};
 ghost use Rattle.ptk_main_faults.specs.HostFaults.{IsHostFault};
 ghost use Rattle.ptk_main_runs.specs.World.{at_tick, world_at};
-ghost use Rattle.ptk_main_answers.specs.Expectations.{AreHalted, IsEnd, IsFailed, IsNoFailure, IsPassed, IsReported, IsUnlike, report_in};
+ghost use Rattle.ptk_main_answers.specs.Expectations.{AreHalted, IsEnd, IsFailed, IsHaltLook, IsNextStop, IsNoFailure, IsPassed, IsReported, IsUnlike, report_in};
 ghost use Rattle.ptk_main_answers.specs.Refusals.{IsFaultOf, missing_image};
-ghost use Rattle.ptk_main_answers.specs.Watching.{HasWatched};
+ghost use Rattle.ptk_main_answers.specs.Watching.{HasWatched, WasWatched};
 
 use crate::document::put_document;
 use crate::expectation::{difference, first_failure};
@@ -20,10 +20,10 @@ use ptk_words::{PartId, Tick};
 use std::alloc::Global;
 use std::io::Write;
 
-/// The number of ticks between two looks at whether every partition has halted.
+/// A run that is to end where every partition has halted ends at a multiple of this number of ticks.
 const HALT_STRIDE: u64 = 1024;
 
-/// The number of ticks between two reports of progress.
+/// The number of ticks between two reports of progress, at most.
 const WATCH_STRIDE: u64 = 1 << 20;
 
 /// Who watches a run on its way.
@@ -71,8 +71,9 @@ pub fn run_answer<'a, V: Watch, W: Write>(
         IfSome question.now.expected (λ bytes. bytes.now ≡ report_in question.now.format (world_at config.now files.now question.now.ticks))) }
     ensures passed { OnOk result (question.now.until_halted ≡ false →
         IsNoFailure question.now.fail_on (world_at config.now files.now question.now.ticks)) }
-    ensures watched { OnOk result ((n : ℕ) × IsEnd question.now.until_halted question.now.ticks (world_at config.now files.now n)
-        × (ticks : List ℕ) × HasWatched V.sees question.now.ticks 0 n ticks watch.old watch.new) }
+    ensures watched { OnOk result (WasWatched V.sees question.now config.now files.now watch.old watch.new) }
+    ensures seen { IfErr result (λ fault. missing_image config.now files.now ≡ None → IsHostFault fault
+        ⊎ WasWatched V.sees question.now config.now files.now watch.old watch.new) }
     ensures ended { OnOk result ((n : ℕ) × IsPassed question.now (world_at config.now files.now n) (W.contents out.old) (W.contents out.new)) }
     ensures refused { let refusal = missing_image config.now files.now in
         MatchResult result (λ _. refusal ≡ None) (λ fault. (refusal ≡ None) ⊎ IsFaultOf refusal refusal fault) }
@@ -102,28 +103,14 @@ fn run_watched<V: Watch>(system: &mut System<'_>, last: Tick, until_halted: bool
     ensures watched { (ticks : List ℕ) × HasWatched V.sees last system.old.tick system.new.tick ticks watch.old watch.new }
 {
     system.states_are_alone();
-    let stride = stride_of(until_halted);
     let mut tick = system.tick();
     while tick.ticks() < last.ticks() {
         if is_over(system, until_halted) {
             return;
         }
-        go_on(system, last, stride);
+        go_on(system, last, until_halted);
         tick = system.tick();
         watch.reached(tick, last);
-    }
-}
-
-/// The number of ticks between two stops on the way.
-fn stride_of(until_halted: bool) -> u64
-    ensures stride { result ≡ (if until_halted then HALT_STRIDE else WATCH_STRIDE) }
-    ensures some { 0 < result }
-    ensures few { result ≤ LAST_TICK }
-{
-    if until_halted {
-        HALT_STRIDE
-    } else {
-        WATCH_STRIDE
     }
 }
 
@@ -134,18 +121,35 @@ fn is_over(system: &System<'_>, until_halted: bool) -> bool
     until_halted && all_halted(system)
 }
 
-/// Goes on by a stride, and not past the last tick.
-fn go_on(system: &mut System<'_>, last: Tick, stride: u64)
+/// Goes on to the next stop.
+fn go_on(system: &mut System<'_>, last: Tick, until_halted: bool)
     requires small { last ≤ LAST_TICK }
     requires before { system.old.tick < last }
-    requires some { 0 < stride }
-    requires few { stride ≤ LAST_TICK }
+    requires look { IsHaltLook system.old.tick }
     ensures run { system.new ≡ at_tick system.new.tick system.old }
-    ensures reached { system.new.tick ≡ min (system.old.tick + stride) last }
+    ensures stop { IsNextStop until_halted last system.old system.new.tick }
 {
-    let next = system.tick().ticks() + stride;
-    let end = next.min(last.ticks());
-    system.run_to(Tick::new(end));
+    let stop = next_stop(system, last, until_halted);
+    system.run_to(stop);
+}
+
+/// The tick of the next stop, at most `WATCH_STRIDE` from here and not past the last tick. On request it is the next
+/// multiple of `HALT_STRIDE`, or the last one up to which nothing of any partition changes, where that is later.
+fn next_stop(system: &System<'_>, last: Tick, until_halted: bool) -> Tick
+    requires small { last ≤ LAST_TICK }
+    requires before { system.now.tick < last }
+    requires look { IsHaltLook system.now.tick }
+    ensures { IsNextStop until_halted last system.now result }
+{
+    let tick = system.tick().ticks();
+    let far = last.ticks().min(tick + WATCH_STRIDE);
+    if !until_halted {
+        return Tick::new(far);
+    }
+    let still = system.all_stay_until(Tick::new(far)).ticks();
+    let near = last.ticks().min(tick + HALT_STRIDE);
+    let stop = near.max(still / HALT_STRIDE * HALT_STRIDE);
+    Tick::new(stop)
 }
 
 /// Whether every partition has halted.
@@ -174,13 +178,28 @@ fn put_answer<W: Write>(
     let Some(expected) = question.expected else {
         return put_report(alloc, system, question.format, out);
     };
-    let mut report = Vec::new(alloc);
-    put_report(alloc, system, question.format, &mut report)?;
+    let report = report_bytes(alloc, system, question.format)?;
     let written = out.write_all(report.as_slice());
     match (written, difference(report.as_slice(), expected)) {
         (Err(_), _) => Err(Fault::WriteFailed),
         (Ok(()), Some(fault)) => Err(fault),
         (Ok(()), None) => Ok(()),
+    }
+}
+
+/// The report of a system in a form, in memory. A fault where memory was refused, which is all that its writer asks for.
+fn report_bytes(
+    alloc: Global,
+    system: &System<'_>,
+    format: Format,
+) -> Result<Vec<u8>, Fault<'static>>
+    ensures bytes { IfOk result (λ report. report.items ≡ report_in format system.now) }
+    ensures failed { IfErr result (λ fault. fault ≡ Fault.NoMemory) }
+{
+    let mut report = Vec::new(alloc);
+    match put_report(alloc, system, format, &mut report) {
+        Ok(()) => Ok(report),
+        Err(_) => Err(Fault::NoMemory),
     }
 }
 

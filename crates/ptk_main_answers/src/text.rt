@@ -6,7 +6,6 @@ ghost use Rattle.json.specs.Lex.{tokens};
 ghost use Rattle.json.specs.Print.{print};
 ghost use Rattle.serde.specs.Event.{Log};
 ghost use Rattle.serde_json.specs.Sent.{IsTextOf};
-ghost use Rattle.ptk_main_faults.specs.HostFaults.{IsHostFault};
 
 use ptk_main_faults::Fault;
 use serde::Serialize;
@@ -17,7 +16,7 @@ use std::io::Write;
 pub(crate) fn json_text<T: Serialize>(alloc: Global, value: &T) -> Result<String, Fault<'static>>
     ensures events { IfOk result (λ text. (log : Log) × T.writes value.now (Some []) log × IsTextOf log (string_bytes text)) }
     ensures form { IfOk result (λ text. string_bytes text ≡ print (tokens (string_bytes text))) }
-    ensures failed { IfErr result IsHostFault }
+    ensures failed { IfErr result (λ fault. fault ≡ Fault.NoMemory) }
 {
     match serde_json::to_string(alloc, value) {
         Ok(text) => Ok(text),
@@ -28,7 +27,7 @@ pub(crate) fn json_text<T: Serialize>(alloc: Global, value: &T) -> Result<String
 /// Writes bytes. A fault where the writer failed.
 pub(crate) fn put_bytes<W: Write>(bytes: &[u8], out: &mut W) -> Result<(), Fault<'static>>
     ensures written { OnOk result (Appends (W.contents out.old) (W.contents out.new) bytes.now) }
-    ensures failed { IfErr result IsHostFault }
+    ensures failed { IfErr result (λ fault. fault ≡ Fault.WriteFailed) }
 {
     match out.write_all(bytes) {
         Ok(()) => Ok(()),

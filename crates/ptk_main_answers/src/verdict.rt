@@ -1,6 +1,6 @@
 //! The answer to a check as one JSON object.
 
-ghost use Rattle.std.specs.Prelude.{◌≡◌, ◌++◌, IfErr, IfOk, OnOk, option_map, string_bytes};
+ghost use Rattle.std.specs.Prelude.{◌≡◌, ◌≢◌, ◌++◌, IfErr, IfOk, OnOk, option_map, string_bytes};
 ghost use Rattle.std.specs.Option.{option_copied};
 ghost use Rattle.std.specs.Io.KnownBytes.{Appends};
 ghost use Rattle.json.specs.Lex.{tokens};
@@ -57,8 +57,8 @@ fn put_answer<S: Serializer>(line: Option<&str>, out: &mut S) -> Result<(), S::E
 }
 
 /// Writes the answer to a check as one JSON object and a newline: `ok`, or the line of the fault for which the
-/// configuration or an image is refused, and what `check --explain` says. A fault where memory was refused or the
-/// writer failed.
+/// configuration or an image is refused, and what `check --explain` says. A fault where memory was refused, with the
+/// writer as it was, or where the writer failed.
 pub fn check_document<W: Write>(
     alloc: Global,
     fault: Option<&Fault<'_>>,
@@ -68,6 +68,7 @@ pub fn check_document<W: Write>(
     ensures written { OnOk result (Appends (W.contents out.old) (W.contents out.new)
         (check_text (option_map line_of (option_copied fault.entry)) explanation.now ++ newline)) }
     ensures failed { IfErr result IsHostFault }
+    ensures silent { IfErr result (λ fault. fault ≢ Fault.WriteFailed → out.new ≡ out.old) }
 {
     let text = answer_json(alloc, fault, explanation)?;
     put_bytes(text.as_bytes(), out)?;
@@ -82,7 +83,7 @@ fn answer_json(
     explanation: &str,
 ) -> Result<String, Fault<'static>>
     ensures text { IfOk result (λ text. string_bytes text ≡ check_text (option_map line_of (option_copied fault.entry)) explanation.now) }
-    ensures failed { IfErr result IsHostFault }
+    ensures failed { IfErr result (λ fault. fault ≡ Fault.NoMemory) }
 {
     match fault {
         None => check_json(alloc, None, explanation),
@@ -108,7 +109,7 @@ fn check_json(
 ) -> Result<String, Fault<'static>>
     ensures form { IfOk result (λ text. string_bytes text ≡ print (tokens (string_bytes text))) }
     ensures text { IfOk result (λ text. string_bytes text ≡ check_text (option_copied line.entry) explanation.now) }
-    ensures failed { IfErr result IsHostFault }
+    ensures failed { IfErr result (λ fault. fault ≡ Fault.NoMemory) }
 {
     let check = Check { line, explanation };
     json_text(alloc, &check)

@@ -9,5 +9,5 @@ returns-in-Ok-clause-words g c =
     (λ words p named.
     trace_put c.args.filter.now c.args.symbols.now c.args.config.now c.args.files.now c.args.ticks p c.in-Some.p _ c.in-Ok.system c.as_slice.result.now
     (g.W.Write.contents c.args.out.now) (g.W.Write.contents c.put_lines.new.out) c.requires c.in-Some.ensures.within c.in-Some.ensures.place named c.in-Ok.ensures.booted
-    (c.as_slice.ensures.value ∙ c.in_ok-lines.ensures.lines p named) words)
+    (c.as_slice.ensures.value ∙ c.in_ok-lines.ensures.lines p named) (c.in_ok-lines.ensures.steps p named) words)
     c.put_lines.ensures.words

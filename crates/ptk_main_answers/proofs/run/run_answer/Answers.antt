@@ -16,6 +16,17 @@ returns-clause-watched g c =
     watched_at g.V.Watch.sees c.args.question.now c.args.config.now c.args.files.now c.in-Ok.system c.run_watched.new.system c.args.watch.now c.run_watched.new.watch
     c.in-Ok.ensures.booted c.run_watched.ensures.run c.run_watched.ensures.end c.run_watched.ensures.watched
 
+pub returns-in-Some-clause-seen : goal.returns-in-Some-clause-seen
+returns-in-Some-clause-seen g c whole =
+    inr (watched_at g.V.Watch.sees c.args.question.now c.args.config.now c.args.files.now c.in-Ok.system c.run_watched.new.system c.args.watch.now c.run_watched.new.watch
+    c.in-Ok.ensures.booted c.run_watched.ensures.run c.run_watched.ensures.end c.run_watched.ensures.watched)
+
+pub returns-in_err-put_answer-clause-seen : goal.returns-in_err-put_answer-clause-seen
+returns-in_err-put_answer-clause-seen g c =
+    passed_on _ c.from_residual.result c.in_err-put_answer.field-0.0 c.from_residual.ensures.1
+    (λ whole. inr (watched_at g.V.Watch.sees c.args.question.now c.args.config.now c.args.files.now c.in-Ok.system c.run_watched.new.system c.args.watch.now c.run_watched.new.watch
+    c.in-Ok.ensures.booted c.run_watched.ensures.run c.run_watched.ensures.end c.run_watched.ensures.watched))
+
 pub returns-clause-ended : goal.returns-clause-ended
 returns-clause-ended g c =
     passed_at c.args.question.now c.args.config.now c.args.files.now c.in-Ok.system c.run_watched.new.system _ _ c.in-Ok.ensures.booted c.run_watched.ensures.run c.run_watched.ensures.end
