@@ -7,7 +7,7 @@ ghost use Rattle.ptk_main_commands.specs.Statuses.{IsAnswer, IsLineStatus, IsSta
 use crate::counting::stats;
 use crate::picture::timeline;
 use crate::standing::explain;
-use ptk_main_files::{asm, check, disasm, end, impact, run, trace, usage};
+use ptk_main_files::{asm, check, disasm, impact, run, trace, usage};
 use ptk_main_line::{Request, read_line};
 use std::io::Write;
 
@@ -44,7 +44,7 @@ pub fn obey<W: Write>(rt: &HostRuntime, request: Request<'_>, out: &mut W) -> u8
         Request::Timeline(options) => timeline(rt, options, out),
         Request::Check(options) => check(rt, options, out),
         Request::Asm(options) => asm(rt, options),
-        Request::Disasm(options) => end(rt, disasm(rt, options, out)),
+        Request::Disasm(options) => disasm(rt, options, out),
         Request::Impact(options) => impact(rt, options, out),
         Request::Explain(options) => explain(rt, options, out),
         Request::Stats(options) => stats(rt, options, out),

@@ -4,7 +4,7 @@ ghost use Rattle.std.specs.Prelude.{◌≡◌, ◌≤◌, None, Some, IfErr, Mat
 ghost use Rattle.std.specs.Option.{option_map_or};
 ghost use Rattle.ptk_words.specs.declared.TheConstants.{LAST_TICK};
 ghost use Rattle.ptk_main_faults.specs.HostFaults.{IsHostFault};
-ghost use Rattle.ptk_main_files.specs.Outcomes.{IsRefused, WithImages};
+ghost use Rattle.ptk_main_files.specs.Outcomes.{IsRefused, WithImagesRead};
 ghost use Rattle.ptk_main_files.specs.Parts.{part_named};
 ghost use Rattle.ptk_main_files.specs.Refusals.{IsFaultOf, missing_image, refused_trace};
 ghost use Rattle.ptk_main_files.specs.World.{world_at};
@@ -14,7 +14,9 @@ ghost use Rattle.ptk_main_commands.specs.Statuses.{IsStatsEnd};
 
 use ptk_config::Config;
 use ptk_main_faults::Fault;
-use ptk_main_files::{Files, boot_fault, config_in, end, images_of, run_fault, tell};
+use ptk_main_files::{
+    FileReader, Files, HostFiles, boot_fault, config_in, end, images_by, run_fault, tell,
+};
 use ptk_main_line::{Format, StatsOptions};
 use ptk_statistics::{Form, RunFault, stats_with};
 use ptk_words::Tick;
@@ -27,24 +29,28 @@ pub(crate) fn stats<W: Write>(rt: &HostRuntime, options: StatsOptions<'_>, out: 
     ensures { IsStatsEnd options.entry (W.contents out.old) (W.contents out.new) result }
 {
     match config_in(rt, options.run.file) {
-        Ok(config) => end(rt, stats_config(rt, &config, options, out)),
+        Ok(config) => end(
+            rt,
+            stats_config(rt, &HostFiles::of(rt), &config, options, out),
+        ),
         Err(fault) => tell(rt, &fault),
     }
 }
 
-// Writes the figures of a run of a configuration.
-fn stats_config<'a, W: Write>(
+// Writes the figures of a run of a configuration, with its images as this reader has them.
+fn stats_config<'a, R: FileReader, W: Write>(
     rt: &HostRuntime,
+    reader: &R,
     config: &'a Config,
     options: StatsOptions<'a>,
     out: &mut W,
 ) -> Result<(), Fault<'a>>
     requires { options.run.ticks ≤ LAST_TICK }
-    ensures accepted { OnOk result (WithImages config.now.sections (IsStatsOf options.entry config.now (W.contents out.old) (W.contents out.new))) }
+    ensures accepted { OnOk result (WithImagesRead (R.reads reader.now) options.entry.run.root config.now.sections (IsStatsOf options.entry config.now (W.contents out.old) (W.contents out.new))) }
     ensures refused { IfErr result (IsRefused config.now.sections (stats_refusal options.entry.partition config.now) (stats_refusal options.entry.partition config.now)) }
     ensures silent { IfErr result (λ fault. ¬ IsHostFault fault → out.new ≡ out.old) }
 {
-    let files = images_of(rt, config, options.run.root)?;
+    let files = images_by(reader, rt.alloc(), config, options.run.root)?;
     let ticks = Tick::new(options.run.ticks);
     let form = figures_in(options.format);
     stats_answer(

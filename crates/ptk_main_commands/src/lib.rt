@@ -16,8 +16,10 @@
 //!   figures, or how the partition stands, of the run that is asked for are written as text or as JSON; `timeline` only
 //!   where the ticks that are asked for are, as SVG, as a Value Change Dump or as trace events. A fault is of a file
 //!   that is not read, by its name, or the refusal for such files, of which nothing is written.
-//! - Which files it reads is tested; that the writer is standard output is not proved, and tested by one `run` in the
-//!   gate: `answer_words` alone names it.
+//! - These images are those that any reader of files has, below the folder of `--root` (`stats_config`,
+//!   `explain_config`, `timeline_config`). That it is the host's files that are handed on, and which other files it
+//!   reads, is tested; that the writer is standard output is not proved, and tested by one `run` in the gate:
+//!   `answer_words` alone names it.
 //!
 //! Below are the other requests (`ptk_main_files`), and what this crate alone joins: the pictures (`ptk_timeline`,
 //! `ptk_timeline_formats`), the figures (`ptk_statistics`) and the explanation of a run (`ptk_explanation`), which are
@@ -32,7 +34,7 @@ mod standing;
 pub use commands::{answer_to, answer_words, obey};
 pub use picture::timeline_answer;
 pub use ptk_main_files::{
-    answers, bytes_in, check_config, config_in, disasm, impacts, put_place, refusal_explained,
+    answers, bytes_in, check_config, config_in, disasm_file, impacts, put_place, refusal_explained,
     tell, text_in, unread, usage,
 };
 pub use ptk_statistics as statistics;

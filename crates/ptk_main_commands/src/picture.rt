@@ -9,7 +9,7 @@ ghost use Rattle.ptk_timeline_formats.specs.declared.fault.FormatFault.TheVarian
 ghost use Rattle.ptk_timeline_formats.specs.Faults.{missing_in_format};
 ghost use Rattle.ptk_timeline_formats.specs.Runs.{PutsDump, PutsEvents};
 ghost use Rattle.ptk_main_faults.specs.HostFaults.{IsHostFault};
-ghost use Rattle.ptk_main_files.specs.Outcomes.{WithImages};
+ghost use Rattle.ptk_main_files.specs.Outcomes.{WithImagesRead};
 ghost use Rattle.ptk_main_files.specs.Refusals.{IsFaultOf, refused_picture};
 ghost use Rattle.ptk_main_files.specs.World.{world_at};
 ghost use Rattle.ptk_main_commands.specs.Answered.{AreRoutines, IsTimelineOf, PutsPicture};
@@ -19,7 +19,8 @@ ghost use Rattle.ptk_main_commands.specs.Statuses.{IsTimelineEnd};
 use ptk_config::Config;
 use ptk_main_faults::Fault;
 use ptk_main_files::{
-    Files, System, boot_fault, config_in, end, images_of, symbols_of, symbols_text_in, tell,
+    FileReader, Files, HostFiles, System, boot_fault, config_in, end, images_by, symbols_of,
+    symbols_text_in, tell,
 };
 use ptk_main_line::{PictureFormat, TimelineOptions};
 use ptk_symbols::Symbols;
@@ -35,24 +36,28 @@ pub(crate) fn timeline<W: Write>(rt: &HostRuntime, options: TimelineOptions<'_>,
     ensures { IsTimelineEnd options.entry (W.contents out.old) (W.contents out.new) result }
 {
     match config_in(rt, options.run.file) {
-        Ok(config) => end(rt, timeline_config(rt, &config, options, out)),
+        Ok(config) => end(
+            rt,
+            timeline_config(rt, &HostFiles::of(rt), &config, options, out),
+        ),
         Err(fault) => tell(rt, &fault),
     }
 }
 
-// Writes the picture of a run of a configuration.
-fn timeline_config<'a, W: Write>(
+// Writes the picture of a run of a configuration, with its images as this reader has them.
+fn timeline_config<'a, R: FileReader, W: Write>(
     rt: &HostRuntime,
+    reader: &R,
     config: &'a Config,
     options: TimelineOptions<'a>,
     out: &mut W,
 ) -> Result<(), Fault<'a>>
     requires { options.run.ticks ≤ LAST_TICK }
-    ensures accepted { OnOk result (WithImages config.now.sections (IsTimelineOf options.entry config.now (W.contents out.old) (W.contents out.new))) }
+    ensures accepted { OnOk result (WithImagesRead (R.reads reader.now) options.entry.run.root config.now.sections (IsTimelineOf options.entry config.now (W.contents out.old) (W.contents out.new))) }
     ensures refused { IfErr result (IsNamedRefusal options.entry.symbols config.now (picture_refusal options.entry config.now)) }
     ensures silent { IfErr result (λ fault. ¬ IsHostFault fault → out.new ≡ out.old) }
 {
-    let files = images_of(rt, config, options.run.root)?;
+    let files = images_by(reader, rt.alloc(), config, options.run.root)?;
     let text = symbols_text_in(rt, options.symbols)?;
     let symbols = symbols_of(rt, options.symbols, text.as_str())?;
     let from = Tick::new(options.from.unwrap_or(0));

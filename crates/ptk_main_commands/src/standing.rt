@@ -3,7 +3,7 @@
 ghost use Rattle.std.specs.Prelude.{◌≡◌, ◌≤◌, None, IfErr, MatchResult, OnOk};
 ghost use Rattle.ptk_words.specs.declared.TheConstants.{LAST_TICK};
 ghost use Rattle.ptk_main_faults.specs.HostFaults.{IsHostFault};
-ghost use Rattle.ptk_main_files.specs.Outcomes.{WithImages, partition_refusal};
+ghost use Rattle.ptk_main_files.specs.Outcomes.{WithImagesRead, partition_refusal};
 ghost use Rattle.ptk_main_files.specs.Parts.{part_named};
 ghost use Rattle.ptk_main_files.specs.Refusals.{IsFaultOf, refused_trace};
 ghost use Rattle.ptk_main_commands.specs.Answered.{IsExplanationOf, PutsStanding, standing_in};
@@ -14,7 +14,8 @@ use ptk_config::Config;
 use ptk_explanation::{Form, explain_partition_with};
 use ptk_main_faults::Fault;
 use ptk_main_files::{
-    Files, config_in, end, images_of, run_fault, symbols_of, symbols_text_in, tell,
+    FileReader, Files, HostFiles, config_in, end, images_by, run_fault, symbols_of,
+    symbols_text_in, tell,
 };
 use ptk_main_line::{ExplainOptions, Format};
 use ptk_symbols::Symbols;
@@ -28,24 +29,28 @@ pub(crate) fn explain<W: Write>(rt: &HostRuntime, options: ExplainOptions<'_>, o
     ensures { IsExplainEnd options.entry (W.contents out.old) (W.contents out.new) result }
 {
     match config_in(rt, options.run.file) {
-        Ok(config) => end(rt, explain_config(rt, &config, options, out)),
+        Ok(config) => end(
+            rt,
+            explain_config(rt, &HostFiles::of(rt), &config, options, out),
+        ),
         Err(fault) => tell(rt, &fault),
     }
 }
 
-// Writes how a partition of a configuration stands.
-fn explain_config<'a, W: Write>(
+// Writes how a partition of a configuration stands, with its images as this reader has them.
+fn explain_config<'a, R: FileReader, W: Write>(
     rt: &HostRuntime,
+    reader: &R,
     config: &'a Config,
     options: ExplainOptions<'a>,
     out: &mut W,
 ) -> Result<(), Fault<'a>>
     requires { options.run.ticks ≤ LAST_TICK }
-    ensures accepted { OnOk result (WithImages config.now.sections (IsExplanationOf options.entry config.now (W.contents out.old) (W.contents out.new))) }
+    ensures accepted { OnOk result (WithImagesRead (R.reads reader.now) options.entry.run.root config.now.sections (IsExplanationOf options.entry config.now (W.contents out.old) (W.contents out.new))) }
     ensures refused { IfErr result (IsNamedRefusal options.entry.symbols config.now (partition_refusal options.entry.partition.now config.now)) }
     ensures silent { IfErr result (λ fault. ¬ IsHostFault fault → out.new ≡ out.old) }
 {
-    let files = images_of(rt, config, options.run.root)?;
+    let files = images_by(reader, rt.alloc(), config, options.run.root)?;
     let text = symbols_text_in(rt, options.symbols)?;
     let symbols = symbols_of(rt, options.symbols, text.as_str())?;
     let ticks = Tick::new(options.run.ticks);

@@ -1,5 +1,5 @@
 -- What follows of an outcome with the images that were read.
-pub use Rattle.ptk_main_tools.proofs.Ends.{disasm_ended, ended}
+pub use Rattle.ptk_main_tools.proofs.Ends.{ended}
 use Rattle.std.proofs.Common.{◌≡◌, ◌≢◌, ◌∙◌, ℕ, List, [], Option, None, Result, Ok, Err, ◌⊎◌, sym, ap, refl, subst, inl, inr}
 use Rattle.std.specs.Prelude.{◌↔◌, Bool, true, IfErr, IfOk, IsOkAnd, IsSomeAnd, MatchResult, OnOk, Some, is_some}
 use Rattle.std.specs.Borrow.{Bor}
@@ -23,6 +23,7 @@ use Rattle.ptk_main_faults.specs.declared.status.ExitStatus.{ExitStatus}
 use Rattle.ptk_main_faults.specs.declared.status.ExitStatus.TheVariants.{Different, Done}
 use Rattle.ptk_main_tools.specs.NamedFiles.{NamedFile}
 use Rattle.ptk_main_tools.specs.Reading.{AreImagesOf, IsConfigFault, IsSymbolsFileFault}
+use Rattle.ptk_main_tools.proofs.ReadFaults.{unstated}
 use Rattle.ptk_main_answers.specs.World.{World, world_at}
 use Rattle.ptk_main_answers.specs.Expectations.{IsFailed, IsFirstDifference, IsPassed, IsReport}
 use Rattle.ptk_main_answers.specs.Parts.{part_named}
@@ -36,8 +37,8 @@ use Rattle.ptk_impact_answers.specs.Renaming.{renames_of}
 use Rattle.ptk_impact_answers.specs.SameRuns.{AreSameRuns}
 use Rattle.ptk_impact_answers.specs.declared.release.Release.{Release}
 use Rattle.ptk_impact_answers.specs.Tally.{Tally}
-use Rattle.ptk_main_files.specs.Outcomes.{IsCheckRefusal, IsComparison, IsCountFault, IsMissingFault, IsRefused, IsRunFault, IsRunFaultWith, IsRunOf, IsSilent, IsSound, IsTraceFault, IsTraceOf, IsUnexpected, IsUnsaid, PutsComparison, PutsDecoded, PutsExplained, PutsRefusal, PutsSound, PutsTrace, WithImages, WithReleases, check_refusal, partition_refusal, question_of, run_question}
-use Rattle.ptk_main_files.specs.Statuses.{IsCheckStatus, IsEndStatus, IsImpactStatus, IsTraceStatus}
+use Rattle.ptk_main_files.specs.Outcomes.{AreRead, AreReadApart, IsCheckRefusal, IsComparison, IsCountFault, IsImpactFault, IsMissingFault, IsRefused, IsReleaseOf, IsRunFault, IsRunFaultWith, IsRunOf, IsSilent, IsSoundWith, IsTraceFault, IsTraceOf, IsUnexpected, IsUnsaid, PutsComparison, PutsDecoded, PutsExplained, PutsRefusal, PutsSound, PutsTrace, WithImages, WithImagesRead, WithReleases, WithReleasesRead, check_refusal, partition_refusal, question_of, run_question}
+use Rattle.ptk_main_files.specs.Statuses.{IsCheckStatus, IsConfigRead, IsConfigStatus, IsEndStatus, IsImpactEnd, IsImpactOver, IsImpactRead, IsImpactStatus, IsTraceStatus}
 use Rattle.ptk_main_files.specs.Traces.{as_traced, filter_for}
 
 -- ---- the outcome of a request
@@ -48,6 +49,12 @@ on_any P (Ok u) holds = holds
 on_any P (Err fault) holds = tt
 
 -- ---- with the images that were read
+
+-- what is so with images as they were read is so with images
+pub images_alone : (reads : List ℕ → Option (List ℕ) → Type 0) (root : Option (Bor (List ℕ))) (sections : List Section) (P : List NamedFile → Type 0) (outcome : Result (Unit {0}) Fault)
+    → OnOk outcome (WithImagesRead reads root sections P) → OnOk outcome (WithImages sections P)
+images_alone reads root sections P (Ok u) read = (read.0, read.1, read.2.1)
+images_alone reads root sections P (Err fault) read = tt
 
 -- a bad outcome
 pub refused_by : (sections : List Section) (lack refusal : List NamedFile → Option Fault) (outcome : Result (Unit {0}) Fault) (files : List NamedFile) → AreImagesOf sections files
@@ -82,22 +89,25 @@ unexpected question world old new fault failed = elim failed.why [
 ]
 
 -- a good outcome
-pub passed_by : (options : RunOptions) (config : Configuration) (outcome : Result (Unit {0}) Fault) (files : List NamedFile) (question : RunQuestion) (expected : Option (Bor (List ℕ))) (old new : Option (List ℕ))
-    → AreImagesOf config.sections files → question ≡ run_question options expected → is_some expected ≡ is_some options.expect
+pub passed_by : (reads : List ℕ → Option (List ℕ) → Type 0) (options : RunOptions) (config : Configuration) (outcome : Result (Unit {0}) Fault) (files : List NamedFile) (question : RunQuestion) (expected : Option (Bor (List ℕ))) (old new : Option (List ℕ))
+    → AreImagesOf config.sections files → AreRead reads options.run.root config.sections files → question ≡ run_question options expected → is_some expected ≡ is_some options.expect
     → MatchResult outcome (λ _. missing_image config files ≡ None) (λ fault. (missing_image config files ≡ None) ⊎ IsFaultOf (missing_image config files) (missing_image config files) fault)
-    → OnOk outcome ((n : ℕ) × IsPassed question (world_at config files n) old new) → OnOk outcome (WithImages config.sections (IsRunOf options config old new))
-passed_by options config (Ok u) files question expected old new images is named refused passed = (
+    → OnOk outcome ((n : ℕ) × IsPassed question (world_at config files n) old new) → OnOk outcome (WithImagesRead reads options.run.root config.sections (IsRunOf options config old new))
+passed_by reads options config (Ok u) files question expected old new images read is named refused passed = (
   files,
   images,
-  record {
-    whole = refused;
-    expected = expected;
-    named = named;
-    end = passed.0;
-    passed = subst (λ (q : RunQuestion). IsPassed q (world_at config files passed.0) old new) is passed.1;
-  },
+  (
+    read,
+    record {
+      whole = refused;
+      expected = expected;
+      named = named;
+      end = passed.0;
+      passed = subst (λ (q : RunQuestion). IsPassed q (world_at config files passed.0) old new) is passed.1;
+    },
+  ),
 )
-passed_by options config (Err fault) files question expected old new images is named refused passed = tt
+passed_by reads options config (Err fault) files question expected old new images read is named refused passed = tt
 
 -- the first missing image, of which nothing is written
 missing_fault : (config : Configuration) (files : List NamedFile) (fault : Fault) (old new : Option (List ℕ)) → IsFaultOf (missing_image config files) (missing_image config files) fault
@@ -153,11 +163,12 @@ decoded_by options config files (Ok u) filter ticks bytes symbols old new is rea
 decoded_by options config files (Err fault) filter ticks bytes symbols old new is reached unnamed table words = tt
 
 -- a good outcome
-pub traced_by : (options : TraceOptions) (config : Configuration) (outcome : Result (Unit {0}) Fault) (files : List NamedFile) (old new : Option (List ℕ)) → AreImagesOf config.sections files
+pub traced_by : (reads : List ℕ → Option (List ℕ) → Type 0) (options : TraceOptions) (config : Configuration) (outcome : Result (Unit {0}) Fault) (files : List NamedFile) (old new : Option (List ℕ))
+    → AreImagesOf config.sections files → AreRead reads options.run.root config.sections files
     → OnOk outcome (partition_refusal options.partition.now config files ≡ None) → OnOk outcome (PutsTrace options config files old new)
-    → OnOk outcome (options.decode ≡ true → PutsDecoded options config files old new) → OnOk outcome (WithImages config.sections (IsTraceOf options config old new))
-traced_by options config (Ok u) files old new images known written decoded = (files, images, record { known = known; written = written; decoded = decoded })
-traced_by options config (Err fault) files old new images known written decoded = tt
+    → OnOk outcome (options.decode ≡ true → PutsDecoded options config files old new) → OnOk outcome (WithImagesRead reads options.run.root config.sections (IsTraceOf options config old new))
+traced_by reads options config (Ok u) files old new images read known written decoded = (files, images, (read, record { known = known; written = written; decoded = decoded }))
+traced_by reads options config (Err fault) files old new images read known written decoded = tt
 
 -- a bad one
 pub untraced_by : (options : TraceOptions) (config : Configuration) (outcome : Result (Unit {0}) Fault) (files : List NamedFile) (old new : Option (List ℕ)) → AreImagesOf config.sections files
@@ -178,10 +189,11 @@ trace_ended options config kept outcome status old new same traced failed done i
 -- ---- a check
 
 -- a good outcome
-pub sound_by : (format : Format) (explain : Bool) (bytes : List ℕ) (config : Configuration) (outcome : Result (Unit {0}) Fault) (files : List NamedFile) (old new : Option (List ℕ)) → AreImagesOf config.sections files
-    → OnOk outcome (check_refusal config files ≡ None) → OnOk outcome (PutsSound format explain bytes files old new) → OnOk outcome (IsSound format explain bytes config old new)
-sound_by format explain bytes config (Ok u) files old new images is written = (files, images, (is, written))
-sound_by format explain bytes config (Err fault) files old new images is written = tt
+pub sound_by : (reads : List ℕ → Option (List ℕ) → Type 0) (root : Option (Bor (List ℕ))) (format : Format) (explain : Bool) (bytes : List ℕ) (config : Configuration) (outcome : Result (Unit {0}) Fault) (files : List NamedFile) (old new : Option (List ℕ))
+    → AreImagesOf config.sections files → AreRead reads root config.sections files
+    → OnOk outcome (check_refusal config files ≡ None) → OnOk outcome (PutsSound format explain bytes files old new) → OnOk outcome (WithImagesRead reads root config.sections (IsSoundWith format explain bytes config old new))
+sound_by reads root format explain bytes config (Ok u) files old new images read is written = (files, images, (read, (is, written)))
+sound_by reads root format explain bytes config (Err fault) files old new images read is written = tt
 
 -- a bad one as text, with what is written of a refusal
 pub unsound_by : (explain : Bool) (bytes : List ℕ) (config : Configuration) (files : List NamedFile) (outcome : Result (Unit {0}) Fault) (old said new : Option (List ℕ)) → PutsExplained explain bytes files old said
@@ -219,12 +231,61 @@ done_is_no_difference : (status : ExitStatus) → status ≡ Different → statu
 done_is_no_difference status different done = cc
 
 -- the status of the counts
-pub counted : (options : ImpactOptions) (earlier later : Configuration) (tally : Tally) (status : ExitStatus) (number : ℕ) (old new : Option (List ℕ))
-    → WithReleases earlier later (IsComparison options tally old new) → (IsClear tally ↔ (status ≡ Done)) → (status ≡ Done) ⊎ (status ≡ Different)
-    → number ≡ status_number status → IsImpactStatus options old new earlier later number
-counted options earlier later tally status number old new r clear (inl done) is = inl (is ∙ ap status_number done, (r.0, r.1, r.2, r.3, (tally, clear.1 done, r.4)))
-counted options earlier later tally status number old new r clear (inr different) is =
-    inr (inl (is ∙ ap status_number different, (r.0, r.1, r.2, r.3, (tally, (λ c. done_is_no_difference status different (clear.0 c)), r.4))))
+pub counted : (reads : List ℕ → Option (List ℕ) → Type 0) (options : ImpactOptions) (earlier later : Configuration) (tally : Tally) (status : ExitStatus) (number : ℕ) (old new : Option (List ℕ))
+    → WithReleasesRead reads options earlier later (IsComparison options tally old new) → (IsClear tally ↔ (status ≡ Done)) → (status ≡ Done) ⊎ (status ≡ Different)
+    → number ≡ status_number status → IsImpactRead reads options old new earlier later number
+counted reads options earlier later tally status number old new r clear (inl done) is =
+    inl (is ∙ ap status_number done, (r.0, r.1, r.2, r.3, (r.4.0, (tally, clear.1 done, r.4.1))))
+counted reads options earlier later tally status number old new r clear (inr different) is =
+    inr (inl (is ∙ ap status_number different, (r.0, r.1, r.2, r.3, (r.4.0, (tally, (λ c. done_is_no_difference status different (clear.0 c)), r.4.1)))))
+
+-- the images of both configurations are those that were read of each
+with_images : (reads : List ℕ → Option (List ℕ) → Type 0) (options : ImpactOptions) (earlier later : Configuration) (P : Release → Release → Type 0)
+    → WithReleasesRead reads options earlier later P → WithReleases earlier later P
+with_images reads options earlier later P r = (r.0, r.1, r.2, r.3, r.4.1)
+
+impact_fault : (reads : List ℕ → Option (List ℕ) → Type 0) (options : ImpactOptions) (old new : Option (List ℕ)) (earlier later : Configuration) (fault : Fault)
+    → IsImpactFault (WithReleasesRead reads options earlier later) options old new earlier later fault → IsImpactFault (WithReleases earlier later) options old new earlier later fault
+impact_fault reads options old new earlier later fault (inl unread) = inl unread
+impact_fault reads options old new earlier later fault (inr refused) = inr (with_images reads options earlier later (IsCountFault options fault old new) refused)
+
+impact_status : (reads : List ℕ → Option (List ℕ) → Type 0) (options : ImpactOptions) (old new : Option (List ℕ)) (earlier later : Configuration) (status : ℕ)
+    → IsImpactRead reads options old new earlier later status → IsImpactStatus options old new earlier later status
+impact_status reads options old new earlier later status (inl same) =
+    inl (same.0, with_images reads options earlier later (λ before after. (tally : Tally) × IsClear tally × IsComparison options tally old new before after) same.1)
+impact_status reads options old new earlier later status (inr (inl other)) =
+    inr (inl (other.0, with_images reads options earlier later (λ before after. (tally : Tally) × (¬ IsClear tally) × IsComparison options tally old new before after) other.1))
+impact_status reads options old new earlier later status (inr (inr failed)) =
+    inr (inr (failed.0, impact_fault reads options old new earlier later failed.0 failed.1, failed.2))
+
+-- a configuration as it was read is one that a text states
+config_stated : (reads : List ℕ → Option (List ℕ) → Type 0) (Q : Fault → Type 0) (name : Bor (List ℕ)) (P R : Configuration → ℕ → Type 0) (status : ℕ)
+    → ((config : Configuration) → P config status → R config status) → IsConfigRead reads Q name P status → IsConfigStatus Q name R status
+config_stated reads Q name P R status weaker (inl failed) = inl (failed.0, (unstated reads name failed.0 failed.1.0, failed.1.1), failed.2)
+config_stated reads Q name P R status weaker (inr read) = inr (read.0, (read.1.0, read.1.2), weaker read.0 read.2)
+
+pub impact_end : (reads : List ℕ → Option (List ℕ) → Type 0) (options : ImpactOptions) (old new : Option (List ℕ)) (status : ℕ) → IsImpactOver reads options old new status → IsImpactEnd options old new status
+impact_end reads options old new status is =
+    config_stated reads (λ _. new ≡ old) options.old (λ earlier. IsConfigRead reads (λ _. new ≡ old) options.new (IsImpactRead reads options old new earlier))
+    (λ earlier. IsConfigStatus (λ _. new ≡ old) options.new (IsImpactStatus options old new earlier)) status
+    (λ earlier read.
+    config_stated reads (λ _. new ≡ old) options.new (IsImpactRead reads options old new earlier) (IsImpactStatus options old new earlier) status
+    (λ later images. impact_status reads options old new earlier later status images) read)
+    is
+
+-- a good outcome of releases whose images were read
+pub released : (reads : List ℕ → Option (List ℕ) → Type 0) (options : ImpactOptions) (earlier later : Configuration) (before after : Release) (outcome : Result Tally Fault) (old new : Option (List ℕ))
+    → IsReleaseOf earlier before → IsReleaseOf later after → AreReadApart reads options earlier later before after
+    → IfOk outcome (λ tally. IsComparison options tally old new before after) → IfOk outcome (λ tally. WithReleasesRead reads options earlier later (IsComparison options tally old new))
+released reads options earlier later before after (Ok tally) old new first second apart is = (before, after, first, second, (apart, is))
+released reads options earlier later before after (Err fault) old new first second apart is = tt
+
+-- a bad one
+pub unreleased : (reads : List ℕ → Option (List ℕ) → Type 0) (options : ImpactOptions) (earlier later : Configuration) (before after : Release) (outcome : Result Tally Fault) (old new : Option (List ℕ))
+    → IsReleaseOf earlier before → IsReleaseOf later after → AreReadApart reads options earlier later before after
+    → IfErr outcome (λ fault. IsCountFault options fault old new before after) → IfErr outcome (IsImpactFault (WithReleasesRead reads options earlier later) options old new earlier later)
+unreleased reads options earlier later before after (Ok tally) old new first second apart is = tt
+unreleased reads options earlier later before after (Err fault) old new first second apart is = inr (before, after, first, second, (apart, is))
 
 -- a fault of a comparison
 pub count_fault : (options : ImpactOptions) (before after : Release) (outcome : Result Tally Fault) (old new : Option (List ℕ))

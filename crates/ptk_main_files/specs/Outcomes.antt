@@ -20,7 +20,7 @@ use Rattle.ptk_main_faults.specs.declared.fault.Fault.{Fault}
 use Rattle.ptk_main_faults.specs.declared.fault.Fault.TheVariants.{NotText, WriteFailed, NoMemory}
 use Rattle.ptk_main_faults.specs.declared.status.ExitStatus.TheVariants.{Unexpected}
 use Rattle.ptk_main_tools.specs.NamedFiles.{NamedFile}
-use Rattle.ptk_main_tools.specs.Reading.{AreImagesOf, AreSymbolsOf, IsImagesFault, IsReadFault, IsSymbolsFileFault}
+use Rattle.ptk_main_tools.specs.Reading.{AreAsRead, AreImagesOf, AreSymbolsOf, AreThere, IsImagesFault, IsReadFault, IsSymbolsFileFault}
 use Rattle.ptk_main_answers.specs.World.{world_at}
 use Rattle.ptk_main_answers.specs.Answers.{ok_line, trace_of}
 use Rattle.ptk_main_answers.specs.Documents.{check_text}
@@ -45,6 +45,15 @@ use Rattle.ptk_main_files.specs.Traces.{filter_for}
 -- so it is with some files that are images of these sections and nothing else (own)
 abbrev pub WithImages : List Section → (List NamedFile → Type 0) → Type 0
 WithImages sections P = (files : List NamedFile) × AreImagesOf sections files × P files
+
+-- the files are as they were read below this folder, where one is given, and an image that is not one of them was not there; `reads` says what the file of a path was read as (own)
+pub record AreRead (reads : List ℕ → Option (List ℕ) → Type 0) (root : Option (Bor (List ℕ))) (sections : List Section) (files : List NamedFile) : Type 0 where
+  pub read : AreAsRead reads root files
+  pub there : AreThere reads root sections files
+
+-- so it is with the images of these sections as they were read below this folder, where one is given (own)
+abbrev pub WithImagesRead : (List ℕ → Option (List ℕ) → Type 0) → Option (Bor (List ℕ)) → List Section → (List NamedFile → Type 0) → Type 0
+WithImagesRead reads root sections P = WithImages sections (λ files. AreRead reads root sections files × P files)
 
 -- an image is not read; or with those that were read it is the fault by what is lacking and by the refusal (own)
 abbrev pub IsRefused : List Section → (List NamedFile → Option Fault) → (List NamedFile → Option Fault) → Fault → Type 0
@@ -110,10 +119,13 @@ abbrev pub PutsRefusal : Format → Bool → List ℕ → List ℕ → List Name
 PutsRefusal form.Text explain line bytes files old new = PutsExplained explain bytes files old new
 PutsRefusal form.Json explain line bytes files old new = PutsObject (Some line) bytes files old new
 
+-- with these files no image is missing or refused, and what is asked for of that is written (own)
+abbrev pub IsSoundWith : Format → Bool → List ℕ → Configuration → Option (List ℕ) → Option (List ℕ) → List NamedFile → Type 0
+IsSoundWith format explain bytes config old new files = (check_refusal config files ≡ None) × PutsSound format explain bytes files old new
+
 -- the configuration has all its images, none is refused, and what is asked for of that is written (own)
 abbrev pub IsSound : Format → Bool → List ℕ → Configuration → Option (List ℕ) → Option (List ℕ) → Type 0
-IsSound format explain bytes config old new =
-    WithImages config.sections (λ files. (check_refusal config files ≡ None) × PutsSound format explain bytes files old new)
+IsSound format explain bytes config old new = WithImages config.sections (IsSoundWith format explain bytes config old new)
 
 -- with these images it is the refusal of a check, and what is asked for of that is written (own)
 abbrev pub IsCheckRefusal : Format → Bool → List ℕ → Configuration → Option (List ℕ) → Option (List ℕ) → Fault → List NamedFile → Type 0
@@ -223,6 +235,19 @@ IsReleaseOf config release = (release.config.now ≡ config) × AreImagesOf conf
 abbrev pub WithReleases : Configuration → Configuration → (Release → Release → Type 0) → Type 0
 WithReleases old new P = (before : Release) × (after : Release) × IsReleaseOf old before × IsReleaseOf new after × P before after
 
+-- the folder of the images of OLD: that of `--old-root`, else that of `--root` (own)
+abbrev pub old_folder : ImpactOptions → Option (Bor (List ℕ))
+old_folder options = option_or options.old_root options.root
+
+-- the images of the first were read below the folder of OLD, and those of the second below that of `--root` (own)
+pub record AreReadApart (reads : List ℕ → Option (List ℕ) → Type 0) (options : ImpactOptions) (earlier later : Configuration) (before after : Release) : Type 0 where
+  pub old : AreRead reads (old_folder options) earlier.sections before.files.now
+  pub new : AreRead reads options.root later.sections after.files.now
+
+-- so it is with two configurations and the images of each as they were read, below its own folder (own)
+abbrev pub WithReleasesRead : (List ℕ → Option (List ℕ) → Type 0) → ImpactOptions → Configuration → Configuration → (Release → Release → Type 0) → Type 0
+WithReleasesRead reads options earlier later P = WithReleases earlier later (λ before after. AreReadApart reads options earlier later before after × P before after)
+
 -- what is asked of a comparison (own)
 abbrev pub question_of : ImpactOptions → Question
 question_of options = record { partition = options.partition; rename = options.rename }
@@ -248,17 +273,14 @@ pub record IsCountFault (options : ImpactOptions) (fault : Fault) (old new : Opt
 abbrev pub AreUnread : Configuration → Configuration → Fault → Type 0
 AreUnread earlier later fault = IsImagesFault earlier.sections fault ⊎ IsImagesFault later.sections fault
 
--- an image of either is not read, and nothing is written; or it is the fault of a comparison (own)
-abbrev pub IsImpactFault : ImpactOptions → Option (List ℕ) → Option (List ℕ) → Configuration → Configuration → Fault → Type 0
-IsImpactFault options old new earlier later fault =
-    (AreUnread earlier later fault × (new ≡ old)) ⊎ WithReleases earlier later (IsCountFault options fault old new)
+-- an image of either is not read, and nothing is written; or it is the fault of a comparison of such releases (own)
+abbrev pub IsImpactFault : ((Release → Release → Type 0) → Type 0) → ImpactOptions → Option (List ℕ) → Option (List ℕ) → Configuration → Configuration → Fault → Type 0
+IsImpactFault releases options old new earlier later fault = (AreUnread earlier later fault × (new ≡ old)) ⊎ releases (IsCountFault options fault old new)
 
--- the partitions that are asked for are the same runs, which the counts say, and it is written (own)
-abbrev pub IsSameRun : ImpactOptions → Option (List ℕ) → Option (List ℕ) → Configuration → Configuration → Type 0
-IsSameRun options old new earlier later =
-    WithReleases earlier later (λ before after. (tally : Tally) × IsClear tally × IsComparison options tally old new before after)
+-- with such releases the partitions that are asked for are the same runs, which the counts say, and it is written (own)
+abbrev pub IsSameRun : ((Release → Release → Type 0) → Type 0) → ImpactOptions → Option (List ℕ) → Option (List ℕ) → Type 0
+IsSameRun releases options old new = releases (λ before after. (tally : Tally) × IsClear tally × IsComparison options tally old new before after)
 
--- not all partitions that are asked for are the same runs, which the counts say, and it is written (own)
-abbrev pub IsOtherRun : ImpactOptions → Option (List ℕ) → Option (List ℕ) → Configuration → Configuration → Type 0
-IsOtherRun options old new earlier later =
-    WithReleases earlier later (λ before after. (tally : Tally) × (¬ IsClear tally) × IsComparison options tally old new before after)
+-- with such releases not all partitions that are asked for are the same runs, which the counts say, and it is written (own)
+abbrev pub IsOtherRun : ((Release → Release → Type 0) → Type 0) → ImpactOptions → Option (List ℕ) → Option (List ℕ) → Type 0
+IsOtherRun releases options old new = releases (λ before after. (tally : Tally) × (¬ IsClear tally) × IsComparison options tally old new before after)

@@ -12,9 +12,10 @@ use Rattle.ptk_main_faults.specs.Lines.{line_of}
 use Rattle.ptk_main_faults.specs.Statuses.{status_number}
 use Rattle.ptk_main_faults.specs.declared.fault.Fault.{Fault}
 use Rattle.ptk_main_faults.specs.declared.status.ExitStatus.TheVariants.{Different, Done}
-use Rattle.ptk_main_tools.specs.Reading.{IsConfigFault, IsConfigFileFault, IsStated}
+use Rattle.ptk_main_tools.specs.Reading.{IsConfigFault, IsConfigFileFault, IsStated, IsStatedIn, IsUnstatedIn}
 use Rattle.ptk_main_tools.specs.Usage.{IsUsageStatus}
-use Rattle.ptk_main_files.specs.Outcomes.{IsFormFault, IsImpactFault, IsOtherRun, IsRunFault, IsRunOf, IsSameRun, IsSound, IsTraceFault, IsTraceOf, IsUnsaid, PutsRefusal, WithImages}
+use Rattle.ptk_impact_answers.specs.declared.release.Release.{Release}
+use Rattle.ptk_main_files.specs.Outcomes.{IsFormFault, IsImpactFault, IsOtherRun, IsRunFault, IsRunOf, IsSameRun, IsSound, IsTraceFault, IsTraceOf, IsUnsaid, PutsRefusal, WithImages, WithReleases, WithReleasesRead}
 use Rattle.ptk_main_files.specs.Traces.{as_traced}
 
 -- ---- what it read first
@@ -28,6 +29,11 @@ IsStatedStatus Q P bytes status =
 abbrev pub IsConfigStatus : (Fault → Type 0) → Bor (List ℕ) → (Configuration → ℕ → Type 0) → ℕ → Type 0
 IsConfigStatus Q name P status =
     IsFaultStatus (λ fault. IsConfigFileFault name fault × Q fault) status ⊎ ((config : Configuration) × IsStated config × P config status)
+
+-- no configuration is read, by a fault of this file as it was read, with which it is so, or it is so with the one that it was read as (own)
+abbrev pub IsConfigRead : (List ℕ → Option (List ℕ) → Type 0) → (Fault → Type 0) → Bor (List ℕ) → (Configuration → ℕ → Type 0) → ℕ → Type 0
+IsConfigRead reads Q name P status =
+    IsFaultStatus (λ fault. IsUnstatedIn reads name fault × Q fault) status ⊎ ((config : Configuration) × IsStatedIn reads name.now config × P config status)
 
 -- ---- each request, with what the writer holds before and behind it
 
@@ -50,12 +56,20 @@ IsCheckStatus options old new bytes status =
     ⊎ IsStatedStatus (λ fault. PutsRefusal format explain (line_of fault) bytes [] old new)
     (λ config. IsEndStatus (IsSound format explain bytes config old new) (IsFormFault format explain bytes config old new)) bytes status
 
--- impact: done only where the partitions that are asked for are the same runs, and different only where they are not (own)
+-- impact, of such releases: done only where the partitions that are asked for are the same runs, and different only where they are not (own)
+abbrev pub IsImpactStatusOf : ((Release → Release → Type 0) → Type 0) → ImpactOptions → Option (List ℕ) → Option (List ℕ) → Configuration → Configuration → ℕ → Type 0
+IsImpactStatusOf releases options old new earlier later status =
+    ((status ≡ status_number Done) × IsSameRun releases options old new)
+    ⊎ (((status ≡ status_number Different) × IsOtherRun releases options old new)
+    ⊎ IsFaultStatus (IsImpactFault releases options old new earlier later) status)
+
+-- impact, of two configurations with the images that were read of each (own)
 abbrev pub IsImpactStatus : ImpactOptions → Option (List ℕ) → Option (List ℕ) → Configuration → Configuration → ℕ → Type 0
-IsImpactStatus options old new earlier later status =
-    ((status ≡ status_number Done) × IsSameRun options old new earlier later)
-    ⊎ (((status ≡ status_number Different) × IsOtherRun options old new earlier later)
-    ⊎ IsFaultStatus (IsImpactFault options old new earlier later) status)
+IsImpactStatus options old new earlier later = IsImpactStatusOf (WithReleases earlier later) options old new earlier later
+
+-- impact, of two configurations with the images of each as they were read, below its own folder (own)
+abbrev pub IsImpactRead : (List ℕ → Option (List ℕ) → Type 0) → ImpactOptions → Option (List ℕ) → Option (List ℕ) → Configuration → Configuration → ℕ → Type 0
+IsImpactRead reads options old new earlier later = IsImpactStatusOf (WithReleasesRead reads options earlier later) options old new earlier later
 
 -- ---- each command
 
@@ -75,6 +89,11 @@ IsCheckEnd options old new status = IsTextStatus (λ _. new ≡ old) options.fil
 abbrev pub IsImpactEnd : ImpactOptions → Option (List ℕ) → Option (List ℕ) → ℕ → Type 0
 IsImpactEnd options old new status =
     IsConfigStatus (λ _. new ≡ old) options.old (λ earlier. IsConfigStatus (λ _. new ≡ old) options.new (IsImpactStatus options old new earlier)) status
+
+-- `impact`, of what its files were read as (own)
+abbrev pub IsImpactOver : (List ℕ → Option (List ℕ) → Type 0) → ImpactOptions → Option (List ℕ) → Option (List ℕ) → ℕ → Type 0
+IsImpactOver reads options old new status =
+    IsConfigRead reads (λ _. new ≡ old) options.old (λ earlier. IsConfigRead reads (λ _. new ≡ old) options.new (IsImpactRead reads options old new earlier)) status
 
 -- `trace`: a usage error where an option of a trace in words is there without `--decode`, and nothing is written then (own)
 pub record IsTraceAnswer (options : TraceOptions) (old new : Option (List ℕ)) (status : ℕ) : Type 0 where

@@ -5,7 +5,7 @@ ghost use Rattle.ptk_main_faults.specs.HostFaults.{IsHostFault};
 ghost use Rattle.ptk_main_faults.specs.Lines.{line_of};
 ghost use Rattle.ptk_main_faults.specs.declared.fault.Fault.TheVariants.{NoMemory};
 ghost use Rattle.ptk_main_answers.specs.Refusals.{IsFaultOf, missing_image};
-ghost use Rattle.ptk_main_files.specs.Outcomes.{IsCheckFault, IsCheckRefusal, IsFormFault, IsSound, IsTextExplanation, IsUnsaid, PutsCheck, PutsExplained, PutsExplanation, PutsObject, PutsRefusal, check_refusal};
+ghost use Rattle.ptk_main_files.specs.Outcomes.{IsCheckFault, IsCheckRefusal, IsFormFault, IsSound, IsSoundWith, IsTextExplanation, IsUnsaid, PutsCheck, PutsExplained, PutsExplanation, PutsObject, PutsRefusal, WithImagesRead, check_refusal};
 ghost use Rattle.ptk_main_files.specs.Statuses.{IsCheckEnd, IsCheckStatus};
 
 use crate::explaining::{put_explained, put_on_request};
@@ -13,7 +13,7 @@ use ptk_config::Config;
 use ptk_main_answers::{Files, check_document, check_with};
 use ptk_main_faults::Fault;
 use ptk_main_line::{CheckOptions, Format};
-use ptk_main_tools::{config_of, end, images_of, tell, text_in};
+use ptk_main_tools::{FileReader, HostFiles, config_of, end, images_by, tell, text_in};
 use std::alloc::Global;
 use std::io::Write;
 
@@ -32,25 +32,32 @@ fn check_text<W: Write>(rt: &HostRuntime, text: &str, options: CheckOptions<'_>,
     ensures { IsCheckStatus options.entry (W.contents out.old) (W.contents out.new) text.now result }
 {
     match config_of(rt, text) {
-        Ok(config) => end(rt, check_in_form(rt, text, &config, options, out)),
+        Ok(config) => {
+            let reader = &HostFiles::of(rt);
+            end(
+                rt,
+                check_in_form(reader, rt.alloc(), text, &config, options, out),
+            )
+        }
         Err(fault) => tell(rt, &refusal_in_form(rt.alloc(), text, fault, options, out)),
     }
 }
 
-// Writes what a check says, in the form that is asked for.
-fn check_in_form<'a, W: Write>(
-    rt: &HostRuntime,
+// Writes what a check says, in the form that is asked for, with the images as this reader has them.
+fn check_in_form<'a, R: FileReader, W: Write>(
+    reader: &R,
+    alloc: Global,
     text: &str,
     config: &'a Config,
     options: CheckOptions<'_>,
     out: &mut W,
 ) -> Result<(), Fault<'a>>
-    ensures sound { OnOk result (IsSound options.entry.format options.entry.explain text.now config.now (W.contents out.old) (W.contents out.new)) }
+    ensures sound { OnOk result (WithImagesRead (R.reads reader.now) options.entry.root config.now.sections (IsSoundWith options.entry.format options.entry.explain text.now config.now (W.contents out.old) (W.contents out.new))) }
     ensures failed { IfErr result (IsFormFault options.entry.format options.entry.explain text.now config.now (W.contents out.old) (W.contents out.new)) }
 {
     match options.format {
-        Format::Text => check_config(rt, text, config, options, out),
-        Format::Json => check_json(rt, text, config, options, out),
+        Format::Text => check_lines(reader, alloc, text, config, options, out),
+        Format::Json => check_json(reader, alloc, text, config, options, out),
     }
 }
 
@@ -101,8 +108,23 @@ pub fn check_config<'a, W: Write>(
     ensures sound { OnOk result (IsSound Format.Text options.entry.explain text.now config.now (W.contents out.old) (W.contents out.new)) }
     ensures failed { IfErr result (IsCheckFault Format.Text options.entry.explain text.now config.now (W.contents out.old) (W.contents out.new)) }
 {
-    let files = images_of(rt, config, options.root)?;
-    put_check(rt.alloc(), text, config, &files, options.explain, out)
+    check_lines(&HostFiles::of(rt), rt.alloc(), text, config, options, out)
+}
+
+// Writes what a check says in lines, with the images as this reader has them.
+fn check_lines<'a, R: FileReader, W: Write>(
+    reader: &R,
+    alloc: Global,
+    text: &str,
+    config: &'a Config,
+    options: CheckOptions<'_>,
+    out: &mut W,
+) -> Result<(), Fault<'a>>
+    ensures sound { OnOk result (WithImagesRead (R.reads reader.now) options.entry.root config.now.sections (IsSoundWith Format.Text options.entry.explain text.now config.now (W.contents out.old) (W.contents out.new))) }
+    ensures failed { IfErr result (IsCheckFault Format.Text options.entry.explain text.now config.now (W.contents out.old) (W.contents out.new)) }
+{
+    let files = images_by(reader, alloc, config, options.root)?;
+    put_check(alloc, text, config, &files, options.explain, out)
 }
 
 // Writes what a check says in lines, on request after what the configuration has with its images.
@@ -122,19 +144,21 @@ fn put_check<'a, W: Write>(
     check_with(alloc, config, files, out)
 }
 
-// Writes what a check says as a JSON object; the explanation is in it, asked for or not.
-fn check_json<'a, W: Write>(
-    rt: &HostRuntime,
+// Writes what a check says as a JSON object, with the images as this reader has them; the explanation is in it, asked
+// for or not.
+fn check_json<'a, R: FileReader, W: Write>(
+    reader: &R,
+    alloc: Global,
     text: &str,
     config: &'a Config,
     options: CheckOptions<'_>,
     out: &mut W,
 ) -> Result<(), Fault<'a>>
-    ensures sound { OnOk result (IsSound Format.Json options.entry.explain text.now config.now (W.contents out.old) (W.contents out.new)) }
+    ensures sound { OnOk result (WithImagesRead (R.reads reader.now) options.entry.root config.now.sections (IsSoundWith Format.Json options.entry.explain text.now config.now (W.contents out.old) (W.contents out.new))) }
     ensures failed { IfErr result (IsFormFault Format.Json options.entry.explain text.now config.now (W.contents out.old) (W.contents out.new)) }
 {
-    let files = images_of(rt, config, options.root)?;
-    put_object(rt.alloc(), text, config, &files, out)
+    let files = images_by(reader, alloc, config, options.root)?;
+    put_object(alloc, text, config, &files, out)
 }
 
 // Writes what a check returns as a JSON object. The first fault, as an error, behind its object.
@@ -154,7 +178,7 @@ fn put_object<'a, W: Write>(
     let mut line = Vec::new(alloc);
     match check_with(alloc, config, files, &mut line) {
         Ok(()) => check_document(alloc, None, words.as_str(), out),
-        Err(Fault::NoMemory) => Err(Fault::NoMemory),
+        Err(Fault::NoMemory | Fault::WriteFailed) => Err(Fault::NoMemory),
         Err(fault) => {
             check_document(alloc, Some(&fault), words.as_str(), out)?;
             Err(fault)
@@ -223,10 +247,21 @@ fn explanation(alloc: Global, text: &str, files: &Files) -> Result<String, Fault
     ensures said { IfOk result (λ words. IsTextExplanation text.now files.now (string_bytes words)) }
     ensures unsaid { IfErr result (IsUnsaid Format.Json text.now files.now) }
 {
-    let mut bytes = Vec::new(alloc);
-    put_explained(alloc, text, files, &mut bytes)?;
+    let bytes = explained_bytes(alloc, text, files)?;
     match String::from_utf8(bytes) {
         Ok(words) => Ok(words),
         Err(_) => Err(Fault::NotText("the explanation")),
+    }
+}
+
+// The bytes of that, in memory: a write of them fails for want of memory alone.
+fn explained_bytes(alloc: Global, text: &str, files: &Files) -> Result<Vec<u8>, Fault<'static>>
+    ensures written { IfOk result (λ bytes. PutsExplanation text.now files.now (Some []) (Some bytes.items)) }
+    ensures failed { IfErr result (λ fault. fault ≡ Fault.NoMemory) }
+{
+    let mut bytes = Vec::new(alloc);
+    match put_explained(alloc, text, files, &mut bytes) {
+        Ok(()) => Ok(bytes),
+        Err(_) => Err(Fault::NoMemory),
     }
 }

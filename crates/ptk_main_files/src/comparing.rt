@@ -2,14 +2,14 @@
 
 ghost use Rattle.std.specs.Prelude.{◌≡◌, ◌↔◌, ◌⊎◌, IfErr, IfOk};
 ghost use Rattle.ptk_impact_answers.specs.Counts.{IsClear};
-ghost use Rattle.ptk_main_files.specs.Outcomes.{IsComparison, IsCountFault, IsImpactFault, WithReleases};
-ghost use Rattle.ptk_main_files.specs.Statuses.{IsConfigStatus, IsImpactEnd, IsImpactStatus};
+ghost use Rattle.ptk_main_files.specs.Outcomes.{IsComparison, IsCountFault, IsImpactFault, WithReleasesRead};
+ghost use Rattle.ptk_main_files.specs.Statuses.{IsConfigRead, IsImpactEnd, IsImpactOver, IsImpactRead};
 
 use ptk_config::Config;
 use ptk_impact_answers::{Question, Release, Tally, impact_json_with, impact_with};
 use ptk_main_faults::{ExitStatus, Fault};
 use ptk_main_line::{Format, ImpactOptions};
-use ptk_main_tools::{config_in, images_of, tell};
+use ptk_main_tools::{FileReader, HostFiles, config_by, images_by, tell};
 use std::alloc::Global;
 use std::io::Write;
 
@@ -17,56 +17,71 @@ use std::io::Write;
 pub fn impact<W: Write>(rt: &HostRuntime, options: ImpactOptions<'_>, out: &mut W) -> u8
     ensures { IsImpactEnd options.entry (W.contents out.old) (W.contents out.new) result }
 {
-    match config_in(rt, options.old) {
-        Ok(config) => impact_from(rt, &config, options, out),
+    impact_by(rt, &HostFiles::of(rt), options, out)
+}
+
+// Writes what stands between the configurations in two files, and their images, as this reader has them.
+fn impact_by<R: FileReader, W: Write>(
+    rt: &HostRuntime,
+    reader: &R,
+    options: ImpactOptions<'_>,
+    out: &mut W,
+) -> u8
+    ensures { IsImpactOver (R.reads reader.now) options.entry (W.contents out.old) (W.contents out.new) result }
+{
+    match config_by(rt, reader, options.old) {
+        Ok(config) => impact_from(rt, reader, &config, options, out),
         Err(fault) => tell(rt, &fault),
     }
 }
 
 // What stands between a configuration and the one in a file.
-fn impact_from<W: Write>(
+fn impact_from<R: FileReader, W: Write>(
     rt: &HostRuntime,
+    reader: &R,
     old: &Config,
     options: ImpactOptions<'_>,
     out: &mut W,
 ) -> u8
-    ensures { IsConfigStatus (λ _. W.contents out.new ≡ W.contents out.old) options.entry.new (IsImpactStatus options.entry (W.contents out.old) (W.contents out.new) old.now) result }
+    ensures { IsConfigRead (R.reads reader.now) (λ _. W.contents out.new ≡ W.contents out.old) options.entry.new (IsImpactRead (R.reads reader.now) options.entry (W.contents out.old) (W.contents out.new) old.now) result }
 {
-    match config_in(rt, options.new) {
-        Ok(config) => impact_between(rt, old, &config, options, out),
+    match config_by(rt, reader, options.new) {
+        Ok(config) => impact_between(rt, reader, old, &config, options, out),
         Err(fault) => tell(rt, &fault),
     }
 }
 
 // What stands between two configurations.
-fn impact_between<W: Write>(
+fn impact_between<R: FileReader, W: Write>(
     rt: &HostRuntime,
+    reader: &R,
     old: &Config,
     new: &Config,
     options: ImpactOptions<'_>,
     out: &mut W,
 ) -> u8
-    ensures { IsImpactStatus options.entry (W.contents out.old) (W.contents out.new) old.now new.now result }
+    ensures { IsImpactRead (R.reads reader.now) options.entry (W.contents out.old) (W.contents out.new) old.now new.now result }
 {
-    match put_impact(rt, old, new, options, out) {
+    match put_impact(reader, rt.alloc(), old, new, options, out) {
         Ok(tally) => status_of_tally(&tally).number(),
         Err(fault) => tell(rt, &fault),
     }
 }
 
-// Writes what stands between two configurations, with the images read from their files.
-fn put_impact<'a, W: Write>(
-    rt: &HostRuntime,
+// Writes what stands between two configurations, with the images of each as this reader has them.
+fn put_impact<'a, R: FileReader, W: Write>(
+    reader: &R,
+    alloc: Global,
     old: &'a Config,
     new: &'a Config,
     options: ImpactOptions<'a>,
     out: &mut W,
 ) -> Result<Tally, Fault<'a>>
-    ensures counted { IfOk result (λ tally. WithReleases old.now new.now (IsComparison options.entry tally (W.contents out.old) (W.contents out.new))) }
-    ensures failed { IfErr result (IsImpactFault options.entry (W.contents out.old) (W.contents out.new) old.now new.now) }
+    ensures counted { IfOk result (λ tally. WithReleasesRead (R.reads reader.now) options.entry old.now new.now (IsComparison options.entry tally (W.contents out.old) (W.contents out.new))) }
+    ensures failed { IfErr result (IsImpactFault (WithReleasesRead (R.reads reader.now) options.entry old.now new.now) options.entry (W.contents out.old) (W.contents out.new) old.now new.now) }
 {
-    let old_files = images_of(rt, old, options.old_root.or(options.root))?;
-    let new_files = images_of(rt, new, options.root)?;
+    let old_files = images_by(reader, alloc, old, options.old_root.or(options.root))?;
+    let new_files = images_by(reader, alloc, new, options.root)?;
     let before = Release {
         config: old,
         files: &old_files,
@@ -75,7 +90,7 @@ fn put_impact<'a, W: Write>(
         config: new,
         files: &new_files,
     };
-    compare(rt.alloc(), before, after, options, out)
+    compare(alloc, before, after, options, out)
 }
 
 // Writes what stands between two configurations with their images, in the form that is asked for.

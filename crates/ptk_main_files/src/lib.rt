@@ -29,7 +29,11 @@
 //!   and the progress of a run that is not to be quiet (`put_progress`).
 //! - `trace` is a usage error where an option of a trace in words is there without `--decode`, and nothing is written
 //!   then.
-//! - Which files it reads is tested; that what goes to standard error goes there is neither proved nor tested.
+//! - The images are those that any reader of files has, below the folder of `--root`; of the OLD of `impact` below that
+//!   of `--old-root`, where it is given. The configurations of `impact` are those that the files of their names were
+//!   read as (`impact_by`, `put_impact`; `run_config`, `trace_config`, `check_in_form`). That it is the host's files
+//!   that are handed on, and which other files it reads, is tested; that what goes to standard error goes there is
+//!   neither proved nor tested.
 //!
 //! Below are the command line (`ptk_main_line`), the lines of faults (`ptk_main_faults`), the reading of files and
 //! what is said of an outcome (`ptk_main_tools`), the answers to requests over files already read (`ptk_main_answers`,
@@ -50,8 +54,8 @@ pub use ptk_impact_answers as impacts;
 pub use ptk_main_answers as answers;
 pub use ptk_main_answers::{Files, System, boot_fault, run_fault};
 pub use ptk_main_tools::{
-    asm, bytes_in, config_in, disasm, end, images_of, put_place, symbols_of, symbols_text_in, tell,
-    text_in, unread, usage,
+    FileReader, HostFiles, asm, bytes_in, config_in, disasm, disasm_file, end, images_by,
+    put_place, symbols_of, symbols_text_in, tell, text_in, unread, usage,
 };
 pub use running::run;
 pub use tracing::trace;

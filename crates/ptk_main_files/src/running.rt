@@ -2,7 +2,7 @@
 
 ghost use Rattle.std.specs.Prelude.{◌≡◌, ◌≤◌, IfErr, IfOk, OnOk, is_some};
 ghost use Rattle.ptk_words.specs.declared.TheConstants.{LAST_TICK};
-ghost use Rattle.ptk_main_files.specs.Outcomes.{IsNamedReadFault, IsRunFault, IsRunOf, WithImages, run_question};
+ghost use Rattle.ptk_main_files.specs.Outcomes.{IsNamedReadFault, IsRunFault, IsRunOf, WithImagesRead, run_question};
 ghost use Rattle.ptk_main_files.specs.Statuses.{IsRunEnd, IsRunStatus, IsStatedStatus};
 
 use crate::explaining::refused;
@@ -11,7 +11,7 @@ use ptk_config::Config;
 use ptk_main_answers::{RunQuestion, run_answer};
 use ptk_main_faults::Fault;
 use ptk_main_line::RunOptions;
-use ptk_main_tools::{bytes_in, config_of, end, images_of, tell, text_in};
+use ptk_main_tools::{FileReader, HostFiles, bytes_in, config_of, end, images_by, tell, text_in};
 use ptk_words::Tick;
 use std::io::Write;
 
@@ -33,24 +33,28 @@ fn run_text<W: Write>(rt: &HostRuntime, text: &str, options: RunOptions<'_>, out
     ensures { IsStatedStatus (λ _. W.contents out.new ≡ W.contents out.old) (IsRunStatus options.entry (W.contents out.old) (W.contents out.new)) text.now result }
 {
     match config_of(rt, text) {
-        Ok(config) => end(rt, run_config(rt, &config, options, out)),
+        Ok(config) => end(
+            rt,
+            run_config(rt, &HostFiles::of(rt), &config, options, out),
+        ),
         Err(fault) => refused(rt, text, options.explain, &fault),
     }
 }
 
-// Writes the report of a run of a configuration.
-fn run_config<'a, W: Write>(
+// Writes the report of a run of a configuration, with its images as this reader has them.
+fn run_config<'a, R: FileReader, W: Write>(
     rt: &HostRuntime,
+    reader: &R,
     config: &'a Config,
     options: RunOptions<'a>,
     out: &mut W,
 ) -> Result<(), Fault<'a>>
     requires { options.run.ticks ≤ LAST_TICK }
-    ensures passed { OnOk result (WithImages config.now.sections (IsRunOf options.entry config.now (W.contents out.old) (W.contents out.new))) }
+    ensures passed { OnOk result (WithImagesRead (R.reads reader.now) options.entry.run.root config.now.sections (IsRunOf options.entry config.now (W.contents out.old) (W.contents out.new))) }
     ensures failed { IfErr result (IsRunFault options.entry config.now (W.contents out.old) (W.contents out.new)) }
 {
     let expected = expected_bytes(rt, options.expect)?;
-    let files = images_of(rt, config, options.run.root)?;
+    let files = images_by(reader, rt.alloc(), config, options.run.root)?;
     let question = run_question(options, expected.as_deref());
     let mut progress = Progress::begin(rt, options);
     let outcome = run_answer(rt.alloc(), config, &files, &question, &mut progress, out);

@@ -7,7 +7,7 @@ ghost use Rattle.ptk_main_answers.specs.Refusals.{IsFaultOf};
 ghost use Rattle.ptk_main_line.specs.Requests.{wants_words};
 ghost use Rattle.ptk_main_tools.specs.Reading.{IsSymbolsFileFault};
 ghost use Rattle.ptk_main_tools.specs.Usage.{IsUsageStatus};
-ghost use Rattle.ptk_main_files.specs.Outcomes.{IsTraceFault, IsTraceOf, PutsDecoded, PutsTrace, WithImages, partition_refusal};
+ghost use Rattle.ptk_main_files.specs.Outcomes.{IsTraceFault, IsTraceOf, PutsDecoded, PutsTrace, WithImagesRead, partition_refusal};
 ghost use Rattle.ptk_main_files.specs.Statuses.{IsStatedStatus, IsTraceEnd, IsTraceStatus};
 ghost use Rattle.ptk_main_files.specs.Traces.{AreSteps, IsThread, IsTraceInRange, filter_for, keeping};
 
@@ -17,7 +17,8 @@ use ptk_main_answers::{Files, Filter, decoded_answer, part_named, trace_answer};
 use ptk_main_faults::Fault;
 use ptk_main_line::{MOST_TICKS, TraceOptions, undecoded};
 use ptk_main_tools::{
-    config_of, end, images_of, symbols_of, symbols_text_in, tell, text_in, usage,
+    FileReader, HostFiles, config_of, end, images_by, symbols_of, symbols_text_in, tell, text_in,
+    usage,
 };
 use ptk_words::{ThreadNo, Tick};
 use std::io::Write;
@@ -57,7 +58,10 @@ fn trace_text<W: Write>(rt: &HostRuntime, text: &str, options: TraceOptions<'_>,
     match config_of(rt, text) {
         Ok(mut config) => {
             keep_last(&mut config, options);
-            end(rt, trace_config(rt, &config, options, out))
+            end(
+                rt,
+                trace_config(rt, &HostFiles::of(rt), &config, options, out),
+            )
         }
         Err(fault) => refused(rt, text, options.explain, &fault),
     }
@@ -75,18 +79,19 @@ fn keep_last(config: &mut Config, options: TraceOptions<'_>)
     }
 }
 
-// Writes the last steps of a partition of a configuration.
-fn trace_config<'a, W: Write>(
+// Writes the last steps of a partition of a configuration, with its images as this reader has them.
+fn trace_config<'a, R: FileReader, W: Write>(
     rt: &HostRuntime,
+    reader: &R,
     config: &'a Config,
     options: TraceOptions<'a>,
     out: &mut W,
 ) -> Result<(), Fault<'a>>
     requires { IsTraceInRange options }
-    ensures traced { OnOk result (WithImages config.now.sections (IsTraceOf options.entry config.now (W.contents out.old) (W.contents out.new))) }
+    ensures traced { OnOk result (WithImagesRead (R.reads reader.now) options.entry.run.root config.now.sections (IsTraceOf options.entry config.now (W.contents out.old) (W.contents out.new))) }
     ensures failed { IfErr result (IsTraceFault options.entry config.now (W.contents out.old) (W.contents out.new)) }
 {
-    let files = images_of(rt, config, options.run.root)?;
+    let files = images_by(reader, rt.alloc(), config, options.run.root)?;
     put_steps(rt, config, &files, options, out)
 }
 

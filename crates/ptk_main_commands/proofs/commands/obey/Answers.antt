@@ -1,6 +1,5 @@
 use Rattle.std.proofs.Common.{ap, refl}
 use Rattle.ptk_main_line.specs.declared.requests.Request.TheVariants.{Run, Trace, Timeline, Asm, Check, Disasm, Impact, Explain, Stats}
-use Rattle.ptk_main_files.proofs.Outcomes.{disasm_ended}
 use Rattle.ptk_main_commands.proofs.Requests.{of_request}
 use Rattle.ptk_main_commands.proofs.commands.obey.Goals as goal
 
@@ -20,9 +19,7 @@ pub returns-in-Asm : goal.returns-in-Asm
 returns-in-Asm g c = of_request c.args.request (Asm c.in-Asm.options) (g.W.Write.contents c.args.out.now) (g.W.Write.contents c.args.out.now) c.asm.result c.in-Asm.is (c.asm.ensures, refl)
 
 pub returns-in-Disasm : goal.returns-in-Disasm
-returns-in-Disasm g c =
-    of_request c.args.request (Disasm c.in-Disasm.options) (g.W.Write.contents c.args.out.now) (g.W.Write.contents c.disasm.new.out) c.end.result c.in-Disasm.is
-    (disasm_ended g.W.Write.contents c.in-Disasm.options c.disasm.result c.args.out.now c.disasm.new.out c.end.result c.disasm.ensures.done c.disasm.ensures.refused c.disasm.ensures.silent c.end.ensures.done c.end.ensures.failed)
+returns-in-Disasm g c = of_request c.args.request (Disasm c.in-Disasm.options) (g.W.Write.contents c.args.out.now) (g.W.Write.contents c.disasm.new.out) c.disasm.result c.in-Disasm.is c.disasm.ensures
 
 pub returns-in-Impact : goal.returns-in-Impact
 returns-in-Impact g c = of_request c.args.request (Impact c.in-Impact.options) (g.W.Write.contents c.args.out.now) (g.W.Write.contents c.impact.new.out) c.impact.result c.in-Impact.is c.impact.ensures

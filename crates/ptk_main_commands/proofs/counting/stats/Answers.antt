@@ -2,7 +2,7 @@ use Rattle.std.proofs.Common.{ℕ, List, Option, refl, ap, inl, inr}
 use Rattle.std.proofs.lemmas.Result.{IfErr-weaker}
 use Rattle.ptk_main_faults.specs.declared.fault.Fault.{Fault}
 use Rattle.ptk_main_files.specs.Outcomes.{IsRefused, IsSilent, WithImages}
-use Rattle.ptk_main_files.proofs.Outcomes.{ended}
+use Rattle.ptk_main_files.proofs.Outcomes.{ended, images_alone}
 use Rattle.ptk_main_commands.specs.Answered.{IsStatsOf}
 use Rattle.ptk_main_commands.specs.Refusals.{stats_refusal}
 use Rattle.ptk_main_commands.proofs.Answered.{silently}
@@ -17,7 +17,7 @@ returns-in-Ok g c =
       c.in-Ok.config,
       c.in-Ok.ensures.stated,
       ended (WithImages c.in-Ok.config.sections (IsStatsOf c.args.options c.in-Ok.config old new)) (λ fault. refused fault × IsSilent fault old new) c.stats_config.result c.end.result
-          c.stats_config.ensures.accepted
+          (images_alone (λ _ _. Unit {0}) c.args.options.run.root c.in-Ok.config.sections (IsStatsOf c.args.options c.in-Ok.config old new) c.stats_config.result c.stats_config.ensures.accepted)
           (silently refused c.stats_config.result old new c.stats_config.ensures.refused (IfErr-weaker c.stats_config.result _ _ (λ fault silent other. ap g.W.Write.contents (silent other)) c.stats_config.ensures.silent))
           c.end.ensures.done c.end.ensures.failed,
     )

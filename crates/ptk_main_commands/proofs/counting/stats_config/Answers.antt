@@ -5,7 +5,7 @@ use Rattle.ptk_main_commands.proofs.counting.stats_config.Goals as goal
 
 pub returns-clause-accepted : goal.returns-clause-accepted
 returns-clause-accepted g c =
-    stats_by c.args.options c.args.config.now c.stats_answer.result c.in_ok-files.files c.new-ticks.result c.figures_in-form.result (g.W.Write.contents c.args.out.now) (g.W.Write.contents c.stats_answer.new.out) c.in_ok-files.ensures.named c.new-ticks.ensures c.figures_in-form.ensures
+    stats_by (g.R.FileReader.reads c.args.reader.now) c.args.options c.args.config.now c.stats_answer.result c.in_ok-files.files c.new-ticks.result c.figures_in-form.result (g.W.Write.contents c.args.out.now) (g.W.Write.contents c.stats_answer.new.out) c.in_ok-files.ensures.named (record { read = c.in_ok-files.ensures.read; there = c.in_ok-files.ensures.there }) c.new-ticks.ensures c.figures_in-form.ensures
     c.stats_answer.ensures.refused c.stats_answer.ensures.written
 
 pub returns-clause-refused : goal.returns-clause-refused

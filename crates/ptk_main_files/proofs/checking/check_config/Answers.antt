@@ -1,14 +1,10 @@
-use Rattle.std.proofs.Common.{inl, inr}
-use Rattle.std.proofs.lemmas.Result.{IfErr-weaker}
 use Rattle.ptk_main_line.specs.declared.requests.Format.TheVariants as form
-use Rattle.ptk_main_files.proofs.Outcomes.{sound_by}
+use Rattle.ptk_main_files.specs.Outcomes.{IsSoundWith}
+use Rattle.ptk_main_files.proofs.Outcomes.{images_alone}
 use Rattle.ptk_main_files.proofs.checking.check_config.Goals as goal
 
 pub returns-clause-sound : goal.returns-clause-sound
 returns-clause-sound g c =
-    sound_by form.Text c.args.options.explain c.args.text.now c.args.config.now c.put_check.result c.in_ok-files.files (g.W.Write.contents c.args.out.now) (g.W.Write.contents c.put_check.new.out)
-    c.in_ok-files.ensures.named c.put_check.ensures.sound c.put_check.ensures.written
-
-pub returns-clause-failed : goal.returns-clause-failed
-returns-clause-failed g c =
-    IfErr-weaker c.put_check.result _ _ (λ fault failed. elim failed [ inl host ↦ inl host | inr refused ↦ inr (inr (c.in_ok-files.files, c.in_ok-files.ensures.named, refused)) ]) c.put_check.ensures.failed
+    images_alone (λ _ _. Unit {0}) c.args.options.root c.args.config.now.sections
+    (IsSoundWith form.Text c.args.options.explain c.args.text.now c.args.config.now (g.W.Write.contents c.args.out.now) (g.W.Write.contents c.check_lines.new.out)) c.check_lines.result
+    c.check_lines.ensures.sound

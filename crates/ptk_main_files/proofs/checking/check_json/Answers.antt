@@ -6,8 +6,8 @@ use Rattle.ptk_main_files.proofs.checking.check_json.Goals as goal
 
 pub returns-clause-sound : goal.returns-clause-sound
 returns-clause-sound g c =
-    sound_by form.Json c.args.options.explain c.args.text.now c.args.config.now c.put_object.result c.in_ok-files.files (g.W.Write.contents c.args.out.now) (g.W.Write.contents c.put_object.new.out)
-    c.in_ok-files.ensures.named c.put_object.ensures.sound c.put_object.ensures.written
+    sound_by (g.R.FileReader.reads c.args.reader.now) c.args.options.root form.Json c.args.options.explain c.args.text.now c.args.config.now c.put_object.result c.in_ok-files.files (g.W.Write.contents c.args.out.now) (g.W.Write.contents c.put_object.new.out)
+    c.in_ok-files.ensures.named (record { read = c.in_ok-files.ensures.read; there = c.in_ok-files.ensures.there }) c.put_object.ensures.sound c.put_object.ensures.written
 
 pub returns-clause-failed : goal.returns-clause-failed
 returns-clause-failed g c =

@@ -1,8 +1,5 @@
-use Rattle.std.proofs.Common.{inl, inr, refl}
+use Rattle.ptk_main_files.proofs.Outcomes.{impact_end}
 use Rattle.ptk_main_files.proofs.comparing.impact.Goals as goal
 
-pub returns-in-Ok : goal.returns-in-Ok
-returns-in-Ok g c = inr (c.in-Ok.config, c.in-Ok.ensures.stated, c.impact_from.ensures)
-
-pub returns-in-Err : goal.returns-in-Err
-returns-in-Err g c = inl (c.in-Err.fault, (c.in-Err.ensures.unread, refl), c.tell.ensures)
+pub returns : goal.returns
+returns g c = impact_end (λ _ _. Unit {0}) c.args.options (g.W.Write.contents c.args.out.now) (g.W.Write.contents c.impact_by.new.out) c.impact_by.result c.impact_by.ensures

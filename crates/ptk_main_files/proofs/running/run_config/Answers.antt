@@ -11,8 +11,8 @@ run_answer-outcome-requires g c = subst (λ (q : RunQuestion). q.ticks ≤ LAST_
 
 pub returns-clause-passed : goal.returns-clause-passed
 returns-clause-passed g c =
-    passed_by c.args.options c.args.config.now c.run_answer-outcome.result c.in_ok-files.files c.run_question-question.result c.as_deref.result (g.W.Write.contents c.args.out.now) (g.W.Write.contents c.run_answer-outcome.new.out)
-    c.in_ok-files.ensures.named c.run_question-question.ensures
+    passed_by (g.R.FileReader.reads c.args.reader.now) c.args.options c.args.config.now c.run_answer-outcome.result c.in_ok-files.files c.run_question-question.result c.as_deref.result (g.W.Write.contents c.args.out.now) (g.W.Write.contents c.run_answer-outcome.new.out)
+    c.in_ok-files.ensures.named (record { read = c.in_ok-files.ensures.read; there = c.in_ok-files.ensures.there }) c.run_question-question.ensures
     (c.as_deref.ensures.variant ∙ c.in_ok-expected.ensures.named) c.run_answer-outcome.ensures.refused c.run_answer-outcome.ensures.ended
 
 pub returns-clause-failed : goal.returns-clause-failed
