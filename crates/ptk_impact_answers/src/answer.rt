@@ -49,9 +49,9 @@ impl<'a> Question<'a> {
 /// Writes what stands between two configurations: a line for each partition of the new one that is asked for, by its
 /// name or by the one that it had, with what differs beneath, then a line for each that is gone, and a last line that
 /// counts. Gives the counts: how many of these partitions are unchanged, unchanged but for the trace kept, changed, new
-/// and gone. They have no changed, new or gone partition if and only if some partition is asked for and each that is, of
-/// either configuration, is one of the other, one to one by the names and the renames, and boot sees the same of both
-/// but for the trace's length: it is the same run. At least one is then compared.
+/// and gone. They have no changed, new or gone partition if and only if some partition is asked for and each that is,
+/// of either configuration, is one of the other, one to one by the names and the renames, and boot sees the same of
+/// both but for the trace's length: it is the same run. At least one is then compared.
 ///
 /// `Fault::MissingFile` names the first image that is not there, those of the old configuration first; else
 /// `Fault::NoPartition` what is no rename or has the old or the new name of an earlier one, a renamed one that one of

@@ -1,6 +1,6 @@
 #![tactic(auto)]
 
-//! What is told of one partition that two configurations are compared about, as lines or as a JSON object, and how many
+//! What is told of one partition where two configurations are compared, as lines or as a JSON object, and how many
 //! partitions have which impact.
 //!
 //! - A partition that both configurations have is told by a line with its name and its answer, then what differs and

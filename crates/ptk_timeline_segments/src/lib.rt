@@ -27,7 +27,7 @@
 //! due cost nothing. A row is kept by columns, in room that is made once: of a column, which kind of look held longest,
 //! and whether there was another beside it; where a column is one tick, this is the look itself. All that is not a step
 //! begins at the tick of the decision that brought it. Below are the system, its window plan and the configuration; the
-//! drawing, `ptk_timeline`, is above.
+//! drawing, `ptk_timeline_rows` and `ptk_timeline`, is above.
 
 mod lane;
 mod look;
