@@ -7,8 +7,8 @@ use crate::parts::{FIRST, FRAME, NUMBERS, SECOND};
 use ptk_asm::assemble;
 use ptk_asm_language::Section;
 use ptk_main_commands::{
-    answer_words, bytes_in, check_config, config_in, disasm, put_place, refusal_explained, text_in,
-    unread, usage,
+    answer_words, bytes_in, check_config, config_in, disasm_file, put_place, refusal_explained,
+    text_in, unread, usage,
 };
 use ptk_main_faults::Fault;
 use ptk_main_guests::P;
@@ -80,7 +80,7 @@ const BYTES: [(&str, &[u8]); 6] = [
 ];
 
 /// Command lines with their statuses, in this order: some read what others before them wrote.
-const COMMANDS: [(&str, u8); 83] = [
+const COMMANDS: [(&str, u8); 86] = [
     ("ptk", 2),
     ("ptk --help", 0),
     ("ptk run alone.toml --ticks 1099511627777", 2),
@@ -222,6 +222,10 @@ const COMMANDS: [(&str, u8); 83] = [
     ("ptk disasm short.img none.s", 1),
     ("ptk disasm long.img none.s", 1),
     ("ptk disasm hello.img none/hello.s", 3),
+    // the file for the source is that of the image
+    ("ptk disasm hello.img hello.img", 2),
+    ("ptk disasm hello.img ./hello.img", 2),
+    ("ptk disasm none.img none.img", 2),
 ];
 
 /// The files that the commands wrote or left, in the end.
@@ -358,7 +362,7 @@ fn is_left<'a>(
         target: Some("none.s"),
         symbols,
     };
-    match disasm(rt, options, &mut rt.stdout()) {
+    match disasm_file(rt, options, &mut rt.stdout()) {
         Ok(_) => false,
         Err(fault) => fault == *want,
     }

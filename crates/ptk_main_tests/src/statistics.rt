@@ -1,4 +1,4 @@
-//! The figures of runs of four small guests. What they are was worked out by hand from the costs of docs/GUEST_ABI.md;
+//! The figures of runs of seven small guests. What they are was worked out by hand from the costs of docs/GUEST_ABI.md;
 //! the ticks stand beside the guests. A helper that promises nothing is between the rows and the calls that they test.
 
 use crate::parts::{FIRST, FRAME, NUMBERS};
@@ -70,6 +70,105 @@ attributes:
     .word 0             # default stack
 ";
 
+/// Thread 1 creates thread 2, of a greater priority, and cancels it while it waits for a byte.
+const CANCELS: &str = "
+    la a0, attributes   #  0
+    la a1, second       #  2
+    li a7, 10           #  4  create
+    ecall               #  5
+    li a0, 2            # 23
+    li a7, 40           # 24  cancel
+    ecall               # 25
+    li a7, 0            # 44  exit
+    ecall               # 45
+second:
+    li a0, 7            # 17
+    li a7, 2            # 18  console_get
+    ecall               # 19, blocked from 23 to 25; its unwinding begins at 35, the gate at 40: 1 tick was left at 39
+.data
+attributes:
+    .word 0             # joinable
+    .word 1             # explicit
+    .word 1             # SCHED_FIFO
+    .word 20            # priority
+    .word 0             # default stack
+";
+
+/// Thread 1 locks a mutex, creates thread 2, of a greater priority, and halts the partition while thread 2 waits for
+/// the mutex.
+const HALTS: &str = "
+    la a0, lock         #  0
+    li a7, 22           #  2  mutex_lock
+    ecall               #  3
+    la a0, attributes   # 11
+    la a1, second       # 13
+    li a7, 10           # 15  create
+    ecall               # 16
+    li a7, 0            # 39  exit
+    ecall               # 40
+second:
+    la a0, lock         # 28
+    li a7, 22           # 30  mutex_lock
+    ecall               # 31, blocked from 39 on
+.data
+lock:
+    .word 0
+attributes:
+    .word 0             # joinable
+    .word 1             # explicit
+    .word 1             # SCHED_FIFO
+    .word 20            # priority
+    .word 0             # default stack
+";
+
+/// Thread 1 creates a detached thread of a greater priority, which gets number 2, and both sleep. Thread 2 wakes first
+/// and ends. Thread 1 creates another one, which gets the number too and waits for a byte.
+const FOLLOWS: &str = "
+    la a0, attributes   #   0
+    la a1, sleeper      #   2
+    li a7, 10           #   4  create
+    ecall               #   5
+    la a1, later        #  26
+    li a7, 4            #  28  clock_nanosleep
+    ecall               #  29, blocked from 35 on
+    la a0, attributes   #  90
+    la a1, reader       #  92
+    li a7, 10           #  94  create
+    ecall               #  95
+    li a7, 0            # 112  exit
+    ecall               # 113
+sleeper:
+    la a1, sooner       #  17
+    li a7, 4            #  19  clock_nanosleep
+    ecall               #  20, blocked from 26 on
+    ret                 #  50, the gate at 51 and 55
+reader:
+    li a7, 2            # 107  console_get
+    ecall               # 108, blocked from 112 on
+.data
+sooner:
+    .word 0
+    .word 0
+    .word 50000
+later:
+    .word 0
+    .word 0
+    .word 90000
+attributes:
+    .word 1             # detached
+    .word 1             # explicit
+    .word 1             # SCHED_FIFO
+    .word 20            # priority
+    .word 0             # default stack
+";
+
+/// The window of p: all ticks of a frame.
+const WHOLE: &str = "[[window]]\nstart = 0\nlength = 40\npartition = \"p\"\n";
+
+/// The windows of p: the first 20 ticks of each of ten frames, and then all ticks.
+const WIDENED: &str =
+    "[[window]]\nstart = 0\nlength = 20\npartition = \"p\"\n[[plan]]\nfrom = 10\n[[plan.window]]\nstart = 0\nlength = 40\npartition = \"p\"\n";
+
 /// A guest, the window of its partition, a number of ticks, and what is written of its run.
 struct Case<'a> {
     source: &'a str,
@@ -79,7 +178,7 @@ struct Case<'a> {
 }
 
 /// What is written of each run.
-static CASES: [Case<'static>; 4] = [
+static CASES: [Case<'static>; 12] = [
     // two steps, and the partition is halted from the tick behind the one of its exit
     Case {
         source: EXIT,
@@ -102,6 +201,21 @@ static CASES: [Case<'static>; 4] = [
         ticks: 70,
         written: "partition p idle\n  own ticks        used        idle        lost  after halt  lost ahead       steps\n         66          29          34           3           0           0          14\nthread does            since       steps   preempted       to run    to run own  least stack\n     1 sleep              69          14           0            0             0   0x00001000\nthread ticks     running       ready       input       sleep        join       mutex   condition      relock\n     1 own            32           0           0          34           0           0           0           0\n     1 all            36           0           0          34           0           0           0           0\nthread activations       least        mean    greatest     at tick   own least    own mean own greatest\n     1           2           9          12          16          30           9          10           12\nthread call                           made     refused\n     1 clock_nanosleep                   3           0\n mutex longest       ticks   own ticks      thread     at tick\n\n",
     },
+    // the same up to tick 45, in the last tick of the call with which it blocks: the activation has not ended. It ran
+    // from 0 to 11 and from 30 on, and slept in between
+    Case {
+        source: SLEEPS,
+        window: "[[window]]\nstart = 0\nlength = 36\npartition = \"p\"\n",
+        ticks: 45,
+        written: "partition p idle\n  own ticks        used        idle        lost  after halt  lost ahead       steps\n         41          19          19           3           0           0          10\nthread does            since       steps   preempted       to run    to run own  least stack\n     1 sleep              45          10           0            0             0   0x00001000\nthread ticks     running       ready       input       sleep        join       mutex   condition      relock\n     1 own            22           0           0          19           0           0           0           0\n     1 all            26           0           0          19           0           0           0           0\nthread activations       least        mean    greatest     at tick   own least    own mean own greatest\nthread call                           made     refused\n     1 clock_nanosleep                   2           0\n mutex longest       ticks   own ticks      thread     at tick\n\n",
+    },
+    // the same up to tick 46, the end of that call: the activation has ended
+    Case {
+        source: SLEEPS,
+        window: "[[window]]\nstart = 0\nlength = 36\npartition = \"p\"\n",
+        ticks: 46,
+        written: "partition p idle\n  own ticks        used        idle        lost  after halt  lost ahead       steps\n         42          20          19           3           0           0          10\nthread does            since       steps   preempted       to run    to run own  least stack\n     1 sleep              46          10           0            0             0   0x00001000\nthread ticks     running       ready       input       sleep        join       mutex   condition      relock\n     1 own            23           0           0          19           0           0           0           0\n     1 all            27           0           0          19           0           0           0           0\nthread activations       least        mean    greatest     at tick   own least    own mean own greatest\n     1           1          16          16          16          30          12          12           12\nthread call                           made     refused\n     1 clock_nanosleep                   2           0\n mutex longest       ticks   own ticks      thread     at tick\n\n",
+    },
     // own ticks are 0 to 29, 40 to 69, 80 to 109 and 120 to 139. Thread 1 runs from 0, 58 and 124 on, and is ready from
     // 28 and 90 on, where thread 2 preempts it; with its end at 131 the partition is halted from 132 on. Thread 2 is
     // ready from 16 and 80 on, runs from 28 and 90 on, waits from 58 on, and has ended at 124. The mutex is thread 1's
@@ -111,6 +225,53 @@ static CASES: [Case<'static>; 4] = [
         window: "[[window]]\nstart = 0\nlength = 30\npartition = \"p\"\n",
         ticks: 140,
         written: "partition p exited\n  own ticks        used        idle        lost  after halt  lost ahead       steps\n        110          91           0          11           8           0          32\nthread does            since       steps   preempted       to run    to run own  least stack\n     1 ended             132          17           2           34            24   0x00001000\n     2 ended             124          15           0           12            12   0x00000f00\nthread ticks     running       ready       input       sleep        join       mutex   condition      relock\n     1 own            58          44           0           0           0           0           0           0\n     1 all            68          64           0           0           0           0           0           0\n     2 own            44          22           0           0           0          12           0           0\n     2 all            64          22           0           0           0          22           0           0\nthread activations       least        mean    greatest     at tick   own least    own mean own greatest\nthread call                           made     refused\n     1 pthread_create                    1           0\n     1 pthread_exit                      1           0\n     1 pthread_mutex_lock                1           0\n     1 pthread_mutex_unlock              1           0\n     2 pthread_mutex_lock                1           0\n     2 pthread_mutex_trylock             1           1\n     2 pthread_mutex_unlock              1           0\n mutex longest       ticks   own ticks      thread     at tick\n     1 held             77          57           1           3\n     1 waited           22          12           2          58\n\n",
+    },
+    // thread 2 is created at 5, runs from 17 on, waits from 23 on, is taken out of its wait at 25 with no reply, runs
+    // from 35 on, and has ended at 44. Thread 1 is ready from 17 and 35 on, runs from 23 and 44 on, and the partition
+    // is halted from 46 on
+    Case {
+        source: CANCELS,
+        window: WHOLE,
+        ticks: 60,
+        written: "partition p exited\n  own ticks        used        idle        lost  after halt  lost ahead       steps\n         60          45           0           1          14           0          16\nthread does            since       steps   preempted       to run    to run own  least stack\n     1 halted             46          11           2            9             9   0x00001000\n     2 ended              44           5           0           12            12   0x00000f00\nthread ticks     running       ready       input       sleep        join       mutex   condition      relock\n     1 own            31          15           0           0           0           0           0           0\n     1 all            31          15           0           0           0           0           0           0\n     2 own            15          22           2           0           0           0           0           0\n     2 all            15          22           2           0           0           0           0           0\nthread activations       least        mean    greatest     at tick   own least    own mean own greatest\nthread call                           made     refused\n     1 exit                              1           0\n     1 pthread_create                    1           0\n     1 pthread_cancel                    1           0\n     2 console_get                       1           0\n mutex longest       ticks   own ticks      thread     at tick\n\n",
+    },
+    // thread 2 is created at 16, runs from 28 on, and waits from 39 on, up to the step at 40 that halts the partition:
+    // it has no reply. Thread 1 is ready from 28 on, and runs from 39 on
+    Case {
+        source: HALTS,
+        window: WHOLE,
+        ticks: 60,
+        written: "partition p exited\n  own ticks        used        idle        lost  after halt  lost ahead       steps\n         60          41           0           0          19           0          16\nthread does            since       steps   preempted       to run    to run own  least stack\n     1 halted             41          12           1           11            11   0x00001000\n     2 halted             40           4           0           12            12   0x00000f00\nthread ticks     running       ready       input       sleep        join       mutex   condition      relock\n     1 own            30          11           0           0           0           0           0           0\n     1 all            30          11           0           0           0           0           0           0\n     2 own            11          12           0           0           0           1           0           0\n     2 all            11          12           0           0           0           1           0           0\nthread activations       least        mean    greatest     at tick   own least    own mean own greatest\nthread call                           made     refused\n     1 exit                              1           0\n     1 pthread_create                    1           0\n     1 pthread_mutex_lock                1           0\n     2 pthread_mutex_lock                1           0\n mutex longest       ticks   own ticks      thread     at tick\n     1 held             57          57           1           3\n     1 waited            1           1           2          39\n\n",
+    },
+    // the same up to tick 30: thread 1 is ready from 28 on, and has waited until then
+    Case {
+        source: HALTS,
+        window: WHOLE,
+        ticks: 30,
+        written: "partition p running\n  own ticks        used        idle        lost  after halt  lost ahead       steps\n         30          30           0           0           0           0          12\nthread does            since       steps   preempted       to run    to run own  least stack\n     1 ready              28          10           1            2             2   0x00001000\n     2 running            28           2           0           12            12   0x00000f00\nthread ticks     running       ready       input       sleep        join       mutex   condition      relock\n     1 own            28           2           0           0           0           0           0           0\n     1 all            28           2           0           0           0           0           0           0\n     2 own             2          12           0           0           0           0           0           0\n     2 all             2          12           0           0           0           0           0           0\nthread activations       least        mean    greatest     at tick   own least    own mean own greatest\nthread call                           made     refused\n     1 pthread_create                    1           0\n     1 pthread_mutex_lock                1           0\n mutex longest       ticks   own ticks      thread     at tick\n     1 held             27          27           1           3\n\n",
+    },
+    // thread 2 is created at 5 and 95, and runs from 17, 50 and 107 on. The first one sleeps from 26 on, wakes at 50,
+    // and has ended at 59. The second one waits from 112 on, up to the step at 113 that halts the partition, and never
+    // woke. Thread 1 sleeps from 35 to 90
+    Case {
+        source: FOLLOWS,
+        window: WHOLE,
+        ticks: 120,
+        written: "partition p exited\n  own ticks        used        idle        lost  after halt  lost ahead       steps\n        120          68          46           0           6           0          27\nthread does            since       steps   preempted       to run    to run own  least stack\n     1 halted            114          18           2            9             9   0x00001000\n     2 halted            113           9           0           12            12   0x00000f00\nthread ticks     running       ready       input       sleep        join       mutex   condition      relock\n     1 own            45          14           0          55           0           0           0           0\n     1 all            45          14           0          55           0           0           0           0\n     2 own            23          24           1          24           0           0           0           0\n     2 all            23          24           1          24           0           0           0           0\nthread activations       least        mean    greatest     at tick   own least    own mean own greatest\nthread call                           made     refused\n     1 exit                              1           0\n     1 clock_nanosleep                   1           0\n     1 pthread_create                    2           0\n     2 console_get                       1           0\n     2 clock_nanosleep                   1           0\n mutex longest       ticks   own ticks      thread     at tick\n\n",
+    },
+    // 27,487,790,694 frames with 20 own ticks each, and 16 ticks of the next
+    Case {
+        source: EXIT,
+        window: FIRST,
+        ticks: LAST_TICK,
+        written: "partition p exited\n  own ticks        used        idle        lost  after halt  lost ahead       steps\n549755813896           2           0           0 549755813894           0           2\nthread does            since       steps   preempted       to run    to run own  least stack\n     1 halted              2           2           0            0             0   0x00001000\nthread ticks     running       ready       input       sleep        join       mutex   condition      relock\n     1 own             2           0           0           0           0           0           0           0\n     1 all             2           0           0           0           0           0           0           0\nthread activations       least        mean    greatest     at tick   own least    own mean own greatest\nthread call                           made     refused\n     1 exit                              1           0\n mutex longest       ticks   own ticks      thread     at tick\n\n",
+    },
+    // ten frames with 20 own ticks each, and then each tick
+    Case {
+        source: EXIT,
+        window: WIDENED,
+        ticks: LAST_TICK,
+        written: "partition p exited\n  own ticks        used        idle        lost  after halt  lost ahead       steps\n1099511627576           2           0           0 1099511627574           0           2\nthread does            since       steps   preempted       to run    to run own  least stack\n     1 halted              2           2           0            0             0   0x00001000\nthread ticks     running       ready       input       sleep        join       mutex   condition      relock\n     1 own             2           0           0           0           0           0           0           0\n     1 all             2           0           0           0           0           0           0           0\nthread activations       least        mean    greatest     at tick   own least    own mean own greatest\nthread call                           made     refused\n     1 exit                              1           0\n mutex longest       ticks   own ticks      thread     at tick\n\n",
     },
 ];
 

@@ -157,6 +157,33 @@ deadlock: thread 1 waits for the end of thread 2; thread 2 waits for mutex 1, wh
 const CEILING_JSON: &str =
     "{\"partition\":\"p\",\"tick\":130,\"status\":\"idle\",\"steps\":32,\"lost\":0,\"threads\":[{\"thread\":1,\"activity\":\"join\",\"since\":114,\"joins\":2,\"policy\":\"SCHED_FIFO\",\"assigned_priority\":16,\"effective_priority\":20,\"pc\":112,\"stack_pointer\":4096,\"least_stack_pointer\":4096},{\"thread\":2,\"activity\":\"mutex\",\"since\":53,\"mutex\":1,\"owner\":1,\"mutex_type\":\"PTHREAD_MUTEX_RECURSIVE\",\"mutex_protocol\":\"PTHREAD_PRIO_PROTECT\",\"mutex_ceiling\":20,\"policy\":\"SCHED_FIFO\",\"assigned_priority\":16,\"effective_priority\":16,\"pc\":132,\"stack_pointer\":3840,\"least_stack_pointer\":3840,\"cancel_pending\":true}],\"deadlocks\":[[1,2]]}\n";
 
+// Two threads that yield to each other: thread 1 yields at 18, and again with its next step.
+const YIELDS: &str = "
+    la a1, second       #   0
+    li a0, 0            #   2
+    li a2, 0            #   3
+    li a7, 10           #   4  create
+    ecall               #   5
+    li a7, 15           #  17  yield
+    ecall               #  18
+    ecall               #  27
+    ret
+second:                 #      at 40
+    li a7, 15           #  22  yield
+    ecall               #  23
+    ret
+";
+
+const YIELDS_LINES: &str = "partition p at tick 30: running, steps 11, lost 0
+thread 1: ready, since tick 27
+  SCHED_FIFO, priority 16, effective 16, pc 0x00000024, sp 0x00001000, least 0x00001000
+thread 2: ready, since tick 23
+  SCHED_FIFO, priority 16, effective 16, pc 0x00000030, sp 0x00000f00, least 0x00000f00
+";
+
+const YIELDS_JSON: &str =
+    "{\"partition\":\"p\",\"tick\":30,\"status\":\"running\",\"steps\":11,\"lost\":0,\"threads\":[{\"thread\":1,\"activity\":\"ready\",\"since\":27,\"policy\":\"SCHED_FIFO\",\"assigned_priority\":16,\"effective_priority\":16,\"pc\":36,\"stack_pointer\":4096,\"least_stack_pointer\":4096},{\"thread\":2,\"activity\":\"ready\",\"since\":23,\"policy\":\"SCHED_FIFO\",\"assigned_priority\":16,\"effective_priority\":16,\"pc\":48,\"stack_pointer\":3840,\"least_stack_pointer\":3840}],\"deadlocks\":[]}\n";
+
 /// A guest, and what is shown of it after this many ticks.
 struct Case<'a> {
     source: &'a str,
@@ -166,7 +193,7 @@ struct Case<'a> {
     json: &'a str,
 }
 
-static CASES: [Case<'static>; 4] = [
+static CASES: [Case<'static>; 5] = [
     Case {
         source: DEADLOCK,
         symbols: DEADLOCK_SYMBOLS,
@@ -194,6 +221,13 @@ static CASES: [Case<'static>; 4] = [
         ticks: 130,
         lines: CEILING_LINES,
         json: CEILING_JSON,
+    },
+    Case {
+        source: YIELDS,
+        symbols: "",
+        ticks: 30,
+        lines: YIELDS_LINES,
+        json: YIELDS_JSON,
     },
 ];
 
