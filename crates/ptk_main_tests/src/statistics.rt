@@ -178,7 +178,7 @@ struct Case<'a> {
 }
 
 /// What is written of each run.
-static CASES: [Case<'static>; 12] = [
+static CASES: [Case<'static>; 13] = [
     // two steps, and the partition is halted from the tick behind the one of its exit
     Case {
         source: EXIT,
@@ -249,6 +249,14 @@ static CASES: [Case<'static>; 12] = [
         window: WHOLE,
         ticks: 30,
         written: "partition p running\n  own ticks        used        idle        lost  after halt  lost ahead       steps\n         30          30           0           0           0           0          12\nthread does            since       steps   preempted       to run    to run own  least stack\n     1 ready              28          10           1            2             2   0x00001000\n     2 running            28           2           0           12            12   0x00000f00\nthread ticks     running       ready       input       sleep        join       mutex   condition      relock\n     1 own            28           2           0           0           0           0           0           0\n     1 all            28           2           0           0           0           0           0           0\n     2 own             2          12           0           0           0           0           0           0\n     2 all             2          12           0           0           0           0           0           0\nthread activations       least        mean    greatest     at tick   own least    own mean own greatest\nthread call                           made     refused\n     1 pthread_create                    1           0\n     1 pthread_mutex_lock                1           0\n mutex longest       ticks   own ticks      thread     at tick\n     1 held             27          27           1           3\n\n",
+    },
+    // the same up to tick 35, in a tick of the call with which thread 2 blocks: nobody waits for the mutex yet. Thread
+    // 1 is ready from 28 on
+    Case {
+        source: HALTS,
+        window: WHOLE,
+        ticks: 35,
+        written: "partition p running\n  own ticks        used        idle        lost  after halt  lost ahead       steps\n         35          35           0           0           0           0          14\nthread does            since       steps   preempted       to run    to run own  least stack\n     1 ready              28          10           1            7             7   0x00001000\n     2 mutex              35           4           0           12            12   0x00000f00\nthread ticks     running       ready       input       sleep        join       mutex   condition      relock\n     1 own            28           7           0           0           0           0           0           0\n     1 all            28           7           0           0           0           0           0           0\n     2 own             7          12           0           0           0           0           0           0\n     2 all             7          12           0           0           0           0           0           0\nthread activations       least        mean    greatest     at tick   own least    own mean own greatest\nthread call                           made     refused\n     1 pthread_create                    1           0\n     1 pthread_mutex_lock                1           0\n     2 pthread_mutex_lock                1           0\n mutex longest       ticks   own ticks      thread     at tick\n     1 held             32          32           1           3\n\n",
     },
     // thread 2 is created at 5 and 95, and runs from 17, 50 and 107 on. The first one sleeps from 26 on, wakes at 50,
     // and has ended at 59. The second one waits from 112 on, up to the step at 113 that halts the partition, and never

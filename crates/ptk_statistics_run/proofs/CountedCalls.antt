@@ -6,7 +6,7 @@ use Rattle.std.proofs.lemmas.List.{length-set}
 use Rattle.ptk_words.specs.declared.TheConstants.{SP, THREAD_LIMIT}
 use Rattle.ptk_words.specs.declared.sections.Entry.{Entry}
 use Rattle.ptk_words_model.specs.State.{Part}
-use Rattle.ptk_main_runs.specs.Activities.{activity_in, mutex_of_activity}
+use Rattle.ptk_main_runs.specs.Activities.{activity_in}
 use Rattle.ptk_main_runs.specs.Activity.{Activity}
 use Rattle.ptk_main_runs.specs.Told.{register_in}
 use Rattle.ptk_main_runs.specs.World.{World, state_of}
@@ -19,7 +19,7 @@ use Rattle.ptk_statistics_figures.specs.declared.thread.CallCount.{CallCount}
 use Rattle.ptk_statistics_figures.specs.declared.thread.Pending.{Pending}
 use Rattle.ptk_statistics_figures.specs.declared.thread.ThreadStatistics.{ThreadStatistics}
 use Rattle.ptk_statistics_run.specs.Calls.{call_count, number_count}
-use Rattle.ptk_statistics_run.specs.Gathering.{AreMadeBy, AreSeen, at_step, at_step_end, behind_row, changed, does_the_same, finished, is_alone, is_cut_off, is_preempted_behind, is_preemption, looked_at, seen, seen_apart, step_over, stepped, stepped_in, waiting_for, with_any_quiet_call, with_call_made, with_last, with_outcome, with_preemption, with_reply_at_wake, with_thread, without_waking}
+use Rattle.ptk_statistics_run.specs.Gathering.{AreMadeBy, AreSeen, at_step, at_step_end, behind_row, changed, does_the_same, finished, is_alone, is_cut_off, is_preempted_behind, is_preemption, looked_at, mutex_behind, seen, seen_apart, step_over, stepped, stepped_in, waiting_for, with_any_quiet_call, with_call_made, with_last, with_outcome, with_preemption, with_reply_at_wake, with_thread, without_waking}
 use Rattle.ptk_statistics_run.specs.Observations.{doing_of, has_halted, is_late_error, is_refused, is_reply_error, number_in, pc_behind, replied, with_reply, with_stack}
 
 -- ---- of one thread
@@ -134,7 +134,7 @@ step_ended_counted : (c : ℕ → ℕ) (activity : Activity) (call : Option ℕ)
 step_ended_counted c activity call is_cut at thread is =
     let preempted : ThreadStatistics = with_preemption (is_preempted_behind call (doing_of activity)) thread in
     either_counted c (is_running (doing_of activity)) thread
-    (waiting_for (mutex_of_activity activity) (turned (doing_of activity) at (without_waking is_cut preempted)))
+    (waiting_for (mutex_behind is_cut activity) (turned (doing_of activity) at (without_waking is_cut preempted)))
     is (waking_counted c is_cut preempted (preemption_counted c (is_preempted_behind call (doing_of activity)) thread is))
 
 stepped_counted : (entry : Entry) (s : Part) (activity : Activity) (is_cut : Bool) (from to : Moment) (c : ℕ → ℕ) (thread : ThreadStatistics) → IsCounted c thread.calls

@@ -130,12 +130,17 @@ abbrev pub without_waking : Bool → ThreadStatistics → ThreadStatistics
 without_waking true thread = record thread { woken = None }
 without_waking false thread = thread
 
+-- the mutex for which a thread waits where its step ends, if it waits for one: for none yet where the step is cut off (own)
+abbrev pub mutex_behind : Bool → Activity → Option MutexNumber
+mutex_behind true activity = None
+mutex_behind false activity = mutex_of_activity activity
+
 -- where its step ends or is cut off, at a moment, it does this: it runs on, or does something else from then on (own)
 abbrev pub at_step_end : Activity → Option ℕ → Bool → Moment → ThreadStatistics → ThreadStatistics
 at_step_end activity call is_cut at thread =
     if is_running (doing_of activity)
     then thread
-    else waiting_for (mutex_of_activity activity) (turned (doing_of activity) at (without_waking is_cut (with_preemption (is_preempted_behind call (doing_of activity)) thread)))
+    else waiting_for (mutex_behind is_cut activity) (turned (doing_of activity) at (without_waking is_cut (with_preemption (is_preempted_behind call (doing_of activity)) thread)))
 
 -- the figures of a thread that makes a step from a moment to another, at which it ends or is cut off, and then does this (own)
 unfoldable pub stepped : Entry → Part → Activity → Bool → Moment → Moment → ThreadStatistics → ThreadStatistics

@@ -5,7 +5,7 @@ ghost use Rattle.ptk_words.specs.declared.TheConstants.{LAST_TICK, SP};
 ghost use Rattle.ptk_main_runs.specs.Told.{register_in};
 ghost use Rattle.ptk_main_runs.specs.World.{state_of};
 ghost use Rattle.ptk_statistics_run.specs.Observations.{is_late_error, is_reply_error, replied, with_reply, with_stack};
-ghost use Rattle.ptk_statistics_run.specs.Gathering.{at_step, at_step_end, behind_row, changed, is_cut_off, looked_at, running_from, step_over, stepped_in, wait_ended, waits_looked_at, with_call_made, with_outcome, with_preemption, with_quiet_call, with_reply_at_wake, without_waking};
+ghost use Rattle.ptk_statistics_run.specs.Gathering.{at_step, at_step_end, behind_row, changed, is_cut_off, looked_at, mutex_behind, running_from, step_over, stepped_in, wait_ended, waits_looked_at, with_call_made, with_outcome, with_preemption, with_quiet_call, with_reply_at_wake, without_waking};
 
 use crate::doing::{doing_of, is_preemption, is_running};
 use crate::reading::{
@@ -15,7 +15,7 @@ use crate::reading::{
 use crate::waits::end_wait;
 use ptk_main_runs::{Activity, System};
 use ptk_statistics_figures::{Doing, Moment, MutexStatistics, Pending, ThreadStatistics};
-use ptk_words::{Entry, PartId, SP, ThreadNo};
+use ptk_words::{Entry, MutexNo, PartId, SP, ThreadNo};
 
 /// A thread that made no step with the decision at a moment: it does what it did, or something else from then on.
 pub(crate) fn turn(
@@ -162,6 +162,16 @@ fn end_made_call(
     }
 }
 
+/// The mutex for which a thread waits where its step ends, if it waits for one: for none yet where the step is cut off.
+fn mutex_behind(activity: &Activity, is_cut: bool) -> Option<MutexNo>
+    ensures { result ≡ mutex_behind is_cut activity.now }
+{
+    if is_cut {
+        return None;
+    }
+    activity.mutex()
+}
+
 /// Where its step ends that began at a moment, in a run up to a tick, a thread runs on, or does something else. A step
 /// that ends behind that tick is cut off there.
 fn end_step(
@@ -183,10 +193,11 @@ fn end_step(
     }
     let end = step_end(system, p, at.tick);
     let ticks = end.min(to).saturating_sub(at.tick);
+    let is_cut = to < end;
     preempt_if(thread, is_preempted_behind(call, doing));
-    forget_waking_if(thread, to < end);
+    forget_waking_if(thread, is_cut);
     thread.turn_to(doing, at.after(ticks));
-    thread.wait_for(activity.mutex());
+    thread.wait_for(mutex_behind(activity, is_cut));
 }
 
 /// A thread made plain steps, and maybe a quiet call behind them: its stack pointer and that call. This is the last
