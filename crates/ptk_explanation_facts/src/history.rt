@@ -34,8 +34,8 @@ impl History {
         }
     }
 
-    /// What is seen of a thread after the decision at a tick, with which the thread `by` made a step if one did. A thread
-    /// that has a number anew begins anew, and so does one that does the same again by a step of its own.
+    /// What is seen of a thread after the decision at a tick, with which the thread `by` made a step if one did. A
+    /// thread that has a number anew begins anew, and so does one that does the same again by a step of its own.
     fn look(
         &mut self,
         system: &System<'_>,

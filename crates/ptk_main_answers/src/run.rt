@@ -187,7 +187,8 @@ fn put_answer<W: Write>(
     }
 }
 
-/// The report of a system in a form, in memory. A fault where memory was refused, which is all that its writer asks for.
+/// The report of a system in a form, in memory. A fault where memory was refused, which is all that its writer asks
+/// for.
 fn report_bytes(
     alloc: Global,
     system: &System<'_>,

@@ -7,8 +7,8 @@
 //! - A file that is not read has the fault of the host's error, by this file's name (`bytes_in`). A text is the bytes
 //!   that the file of its name was read as, and it is refused only where these are no text (`text_by`). So are the
 //!   symbols of a file that is named; where none is, there are none (`symbols_text_by`).
-//! - `config_of` and `symbols_of` return what the text states, or the fault of its first refusal; so does `config_by` of
-//!   the text that the file of this name was read as.
+//! - `config_of` and `symbols_of` return what the text states, or the fault of its first refusal; so does `config_by`
+//!   of the text that the file of this name was read as.
 //! - The files of `images_of` are images of the sections and nothing else; its fault names one that is there. Each has
 //!   the bytes that its path was read as, and an image that is left out was not there (`images_by`).
 //! - `asm` is a usage error where two of its files have the same words, and else only where two were found to be one. A

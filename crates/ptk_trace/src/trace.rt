@@ -44,8 +44,8 @@ impl Model for Trace {
 }
 
 impl Trace {
-    /// A trace that keeps the last `capacity` steps, and none where that is 0. An error where memory ran out. No other call
-    /// takes memory.
+    /// A trace that keeps the last `capacity` steps, and none where that is 0. An error where memory ran out. No other
+    /// call takes memory.
     pub fn new(alloc: Global, capacity: u32) -> Result<Trace, AllocError>
         ensures { IfOk result (λ made. made ≡ record { capacity = capacity; entries = [] }) }
     {
