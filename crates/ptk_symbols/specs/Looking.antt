@@ -1,5 +1,6 @@
--- Symbols of the code as those of the definition, and the better of two.
-use Rattle.std.specs.Prelude.{ℕ, List, map, Option, Some, None, option_map, nat_le, if◌then◌else◌}
+-- Symbols of the code as those of the definition, and their order.
+use Rattle.std.specs.Prelude.{ℕ, ◌≡◌, ◌==◌, List, map, find, Option, option_map}
+use Rattle.std.specs.List.Sorted.{IsNonDecreasingBy}
 use Rattle.ptk_symbols.specs.declared.lines.Symbol.{Symbol}
 
 -- a symbol's address and name (own)
@@ -14,11 +15,10 @@ pairs symbols = map pair symbols
 abbrev pub found_pair : Option Symbol → Option (ℕ × List ℕ)
 found_pair found = option_map pair found
 
--- the later symbol where it begins above the best so far (own)
-abbrev pub above : Option (ℕ × List ℕ) → ℕ × List ℕ → ℕ × List ℕ
-above None s = s
-above (Some best) s = if nat_le s.0 best.0 then best else s
+-- symbols in order of addresses (nm -n)
+abbrev pub AreInOrder : List Symbol → Type 0
+AreInOrder symbols = IsNonDecreasingBy (λ s. s.address) symbols
 
--- the best symbol so far at or below an address, and one more (own)
-abbrev pub better : ℕ → Option (ℕ × List ℕ) → ℕ × List ℕ → Option (ℕ × List ℕ)
-better a best s = if nat_le s.0 a then Some (above best s) else best
+-- symbols in order of addresses, of which the first at each address is that of a table (own)
+abbrev pub IsOrderOf : List (ℕ × List ℕ) → List Symbol → Type 0
+IsOrderOf table symbols = AreInOrder symbols × ((a : ℕ) → find (λ s. s.0 == a) (pairs symbols) ≡ find (λ s. s.0 == a) table)

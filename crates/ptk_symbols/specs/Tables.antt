@@ -61,6 +61,15 @@ table_from n (line ∷ lines) = with_symbol n (symbol_in (without_ending line)) 
 abbrev pub table_of : List ℕ → Result (List (ℕ × List ℕ)) ℕ
 table_of text = table_from 1 (raw_lines text)
 
+-- the symbols of what a text comes to, none where a line has none (own)
+abbrev pub listed : Result (List (ℕ × List ℕ)) ℕ → List (ℕ × List ℕ)
+listed (Ok symbols) = symbols
+listed (Err n) = []
+
+-- the symbols of a text that is a table, in its order (own)
+abbrev pub symbols_of : List ℕ → List (ℕ × List ℕ)
+symbols_of text = listed (table_of text)
+
 -- ---- the symbol at an address
 
 -- the earlier of two symbols, the later one where it begins above the earlier (own)

@@ -7,7 +7,8 @@
 //!   distance.
 //! - `push_name` and `push_place` append its text; `text_in` is a name, where it is a text.
 //!
-//! Below are the lines of `ptk_asm_language`; above are the disassembler and decoded traces.
+//! A table is put in order of addresses when it is read, so that a symbol is found by halving. Below are the lines of
+//! `ptk_asm_language`; above are the disassembler and decoded traces.
 
 mod fault;
 mod lines;

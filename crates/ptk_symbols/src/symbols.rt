@@ -1,6 +1,7 @@
-//! A symbol table, and the symbol at an address.
+//! A symbol table, and the symbol at an address, which is found by halving.
 
-ghost use Rattle.std.specs.Prelude.{◌≡◌, ◌≤◌, ◌↔◌, ◌++◌, ◌==◌, ◌∷◌, [], find, map, option_map, IfSome, IsTrue, OnOk, codes, filter, if◌then◌else◌, string_bytes};
+ghost use Rattle.std.specs.Prelude.{◌≡◌, ◌≤◌, ◌↔◌, ◌++◌, ◌==◌, ◌∷◌, [], find, length, nat_le, nat_lt, option_map, IfSome, IsTrue, OnOk, filter, if◌then◌else◌, string_bytes};
+ghost use Rattle.std.specs.List.{position_or_len};
 ghost use Rattle.ptk_symbols.specs.Tables as is;
 ghost use Rattle.ptk_symbols.specs.Looking as shown;
 
@@ -9,18 +10,25 @@ use std::alloc::{AllocError, Global};
 use std::fmt::Write;
 use std::marker::Model;
 
-/// Names of addresses, in the order of the text.
+/// Names of addresses: to a caller a list in the order of the text.
 #[derive(Drop)]
 pub struct Symbols<'a> {
-    pub(crate) symbols: Vec<Symbol<'a>>,
+    /// The text that they are read from.
+    pub(crate) text: &'a [u8],
+    /// The symbols in order of addresses, those of one address as in the text.
+    pub(crate) by_address: Vec<Symbol<'a>>,
 }
 
 impl<'a> Model for Symbols<'a> {
-    ghost use Rattle.std.specs.Prelude.{ℕ, List, map};
+    ghost use Rattle.std.specs.Prelude.{ℕ, List};
+    ghost use Rattle.ptk_symbols.specs.Tables.{symbols_of};
+    ghost use Rattle.ptk_symbols.specs.Looking.{IsOrderOf};
 
     ghost Value = { List (ℕ × List ℕ) };
 
-    ghost view = { λ s. map (λ x. (x.address, x.name.now)) s.symbols.items };
+    ghost view = { λ s. symbols_of s.text.now };
+
+    ghost invariant = { λ s. IsOrderOf (symbols_of s.text.now) s.by_address.items };
 }
 
 /// The symbol that is nearest to an address, and how far behind its beginning the address is.
@@ -38,7 +46,8 @@ impl<'a> Symbols<'a> {
         ensures { result ≡ [] }
     {
         Symbols {
-            symbols: Vec::new(alloc),
+            text: &[],
+            by_address: Vec::new(alloc),
         }
     }
 
@@ -46,7 +55,7 @@ impl<'a> Symbols<'a> {
     pub fn is_empty(&self) -> bool
         ensures { IsTrue result ↔ (self.now ≡ []) }
     {
-        self.symbols.is_empty()
+        self.by_address.as_slice().is_empty()
     }
 
     /// The symbol that begins last at or below an address, of those that begin there the first of the text, and the
@@ -54,18 +63,26 @@ impl<'a> Symbols<'a> {
     pub fn nearest(&self, address: u32) -> Option<Located<'a>>
         ensures { option_map (λ n. (n.name.now, n.distance)) result ≡ is.nearest self.now address }
     {
-        let symbol = last_below(self.symbols.as_slice(), address)?;
+        let symbol = self.last_below(address)?;
         Some(Located {
             name: symbol.name,
             distance: address - symbol.address,
         })
     }
 
+    /// The symbol that begins last at or below an address, of those that begin there the first of the text.
+    fn last_below(&self, address: u32) -> Option<Symbol<'a>>
+        ensures value { shown.found_pair result ≡ is.last_below address self.now }
+        ensures below { IfSome result (λ s. s.address ≤ address) }
+    {
+        last_below(self.by_address.as_slice(), address)
+    }
+
     /// The first symbol of the text that begins at an address, at a distance of 0. None where none begins there.
     fn exact(&self, address: u32) -> Option<Located<'a>>
         ensures { option_map (λ n. (n.name.now, n.distance)) result ≡ is.exact self.now address }
     {
-        let symbol = symbol_at(self.symbols.as_slice(), address)?;
+        let symbol = symbol_at(self.by_address.as_slice(), address)?;
         Some(Located {
             name: symbol.name,
             distance: 0,
@@ -99,54 +116,47 @@ pub fn text_in(name: &[u8]) -> Option<&str>
     }
 }
 
-/// The first symbol at an address.
-fn symbol_at<'a>(symbols: &[Symbol<'a>], address: u32) -> Option<Symbol<'a>>
-    ensures { shown.found_pair result ≡ find (λ s. s.0 == address) (shown.pairs symbols.now) }
+/// The place of the first symbol that begins at an address or above, the number of symbols where none does.
+fn place_from(symbols: &[Symbol<'_>], from: u64) -> usize
+    requires { shown.AreInOrder symbols.now }
+    ensures place { result ≡ position_or_len (λ s. nat_le from s.address) symbols.now }
+    ensures bound { result ≤ length symbols.now }
 {
-    let mut rest = symbols;
-    while let [symbol, later @ ..] = rest {
-        if symbol.address == address {
-            return Some(*symbol);
-        }
-        rest = later;
-    }
-    None
+    symbols.partition_point(
+        |symbol: &Symbol| -> bool
+            ensures { result ≡ nat_lt symbol.now.address from }
+        { u64::from(symbol.address) < from },
+    )
 }
 
-/// The better of the best symbol so far and one more: this one where it begins at or below the address and above the
-/// best.
-fn better<'a>(address: u32, best: Option<Symbol<'a>>, symbol: Symbol<'a>) -> Option<Symbol<'a>>
-    requires { IfSome best (λ s. s.address ≤ address) }
-    ensures value { shown.found_pair result ≡ shown.better address (shown.found_pair best.entry) (shown.pair symbol.entry) }
-    ensures below { IfSome result (λ s. s.address ≤ address) }
+/// The first symbol at an address.
+fn symbol_at<'a>(symbols: &[Symbol<'a>], address: u32) -> Option<Symbol<'a>>
+    requires { shown.AreInOrder symbols.now }
+    ensures { shown.found_pair result ≡ find (λ s. s.0 == address) (shown.pairs symbols.now) }
 {
-    if symbol.address > address {
-        return best;
+    let place = place_from(symbols, u64::from(address));
+    if place == symbols.len() {
+        return None;
     }
-    match best {
-        Some(found) => {
-            if symbol.address <= found.address {
-                Some(found)
-            } else {
-                Some(symbol)
-            }
-        }
-        None => Some(symbol),
+    let symbol = symbols[place];
+    if symbol.address == address {
+        Some(symbol)
+    } else {
+        None
     }
 }
 
 /// The symbol that begins last at or below an address, of those that begin there the first.
 fn last_below<'a>(symbols: &[Symbol<'a>], address: u32) -> Option<Symbol<'a>>
+    requires { shown.AreInOrder symbols.now }
     ensures value { shown.found_pair result ≡ is.last_below address (shown.pairs symbols.now) }
     ensures below { IfSome result (λ s. s.address ≤ address) }
 {
-    let mut best = None;
-    let mut rest = symbols;
-    while let [symbol, later @ ..] = rest {
-        best = better(address, best, *symbol);
-        rest = later;
+    let above = place_from(symbols, u64::from(address) + 1);
+    if above == 0 {
+        return None;
     }
-    best
+    symbol_at(symbols, symbols[above - 1].address)
 }
 
 /// Appends a visible character; nothing for another byte.

@@ -3,6 +3,7 @@
 ghost use Rattle.std.specs.Prelude.{◌≡◌, ◌++◌, ◌∷◌, [], IfErr, IfOk, Ok, OnOk};
 ghost use Rattle.ptk_symbols.specs.Tables as is;
 ghost use Rattle.ptk_symbols.specs.Reading.{IsWrongLine};
+ghost use Rattle.ptk_symbols.specs.Looking.{IsOrderOf, pairs};
 
 use crate::fault::SymbolFault;
 use crate::lines::{Symbol, symbol_in};
@@ -29,6 +30,14 @@ fn add<'a>(symbols: &mut Vec<Symbol<'a>>, symbol: Symbol<'a>) -> Result<(), Allo
     Ok(())
 }
 
+/// Puts symbols in order of addresses; those of one address stay as they are.
+fn put_in_order(symbols: &mut Vec<Symbol<'_>>) -> Result<(), AllocError>
+    ensures { OnOk result (IsOrderOf (pairs symbols.old.items) symbols.new.items) }
+{
+    symbols.sort_by_key(|symbol| symbol.address)?;
+    Ok(())
+}
+
 /// The symbols in the bytes of a text.
 fn table_in<'a>(alloc: Global, text: &'a [u8]) -> Result<Symbols<'a>, SymbolFault>
     ensures table { IfOk result (λ symbols. is.table_of text.now ≡ Ok symbols) }
@@ -46,5 +55,9 @@ fn table_in<'a>(alloc: Global, text: &'a [u8]) -> Result<Symbols<'a>, SymbolFaul
         number += 1;
         rest = later;
     }
-    Ok(Symbols { symbols })
+    put_in_order(&mut symbols)?;
+    Ok(Symbols {
+        text,
+        by_address: symbols,
+    })
 }
