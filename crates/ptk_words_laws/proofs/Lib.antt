@@ -4,3 +4,4 @@ pub mod ArrivalLaws
 pub mod ExpiryLaws
 pub mod Sizes
 pub mod OtherThreads
+pub mod Callers

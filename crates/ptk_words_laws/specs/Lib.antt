@@ -3,3 +3,4 @@ pub mod Rows
 pub mod Laws
 pub mod Sizes
 pub mod Others
+pub mod Callers

@@ -8,6 +8,7 @@ ghost use Rattle.ptk_words_windows.specs.Windows.{OwnTicks};
 ghost use Rattle.ptk_words_model.specs.State.{Mutex, Console, Part};
 ghost use Rattle.ptk_words_model.specs.Withdrawal.{Expiry};
 ghost use Rattle.ptk_words_laws.specs.Laws.{CostsAreSmall, CallsAreNumbered, ChainIsDecided, PriorityIsGreatest, ArrivalsAreDue, IsInOrder};
+ghost use Rattle.ptk_words_laws.specs.Callers.{CallsKeepCallers, StepsKeepCallers, StepsRunNoOthers};
 ghost use Rattle.ptk_words_laws.specs.Others.{CallsLeaveOthers, StepsLeaveOthers};
 ghost use Rattle.ptk_words_laws.specs.Sizes.{StartIsSized, CallsKeepSizes, DecisionsKeepSizes, SizesStay};
 
@@ -72,4 +73,20 @@ pub fn calls_leave_others()
 /// the ECALL of a call that acts on others.
 pub fn steps_leave_others()
     ensures { (part : Part) → StepsLeaveOthers part }
+{}
+
+/// A call leaves its caller what is in a7, unless its number is freed, and no other thread runs behind it.
+pub fn calls_keep_callers()
+    ensures { (part : Part) → CallsKeepCallers part }
+{}
+
+/// Behind the step that is an ECALL the number of that call is in a7 of the thread that made it, unless its own number
+/// was freed, and no other thread runs.
+pub fn steps_keep_callers()
+    ensures { (part : Part) → StepsKeepCallers part }
+{}
+
+/// Behind a step of any kind no thread runs but the one that made it.
+pub fn steps_run_no_others()
+    ensures { (part : Part) → StepsRunNoOthers part }
 {}
