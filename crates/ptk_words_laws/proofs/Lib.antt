@@ -5,3 +5,4 @@ pub mod ExpiryLaws
 pub mod Sizes
 pub mod OtherThreads
 pub mod Callers
+pub mod OtherDecisions

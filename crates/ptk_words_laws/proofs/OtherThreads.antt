@@ -102,7 +102,7 @@ condition_kept t stood pointer rest i s differ h k = search (either, given, repl
 
 -- ---- places
 
-part_either : (t : ℕ) (stood : Stood) (b : Bool) (x y : Part) → standing (pool_get x.threads t) ≡ stood → standing (pool_get y.threads t) ≡ stood → standing (pool_get (if b then x else y).threads t) ≡ stood
+pub part_either : (t : ℕ) (stood : Stood) (b : Bool) (x y : Part) → standing (pool_get x.threads t) ≡ stood → standing (pool_get y.threads t) ≡ stood → standing (pool_get (if b then x else y).threads t) ≡ stood
 part_either t stood true x y h k = h
 part_either t stood false x y h k = k
 
@@ -155,7 +155,7 @@ called_kept : (o : Option Call) (i : Invocation) (t : ℕ) (stood : Stood) (s : 
 called_kept None i t stood s differ alone h = search rows depth 8
 called_kept (Some known) i t stood s differ alone h = answer_kept known i t stood s differ alone h
 
-effect_kept : (limits : Limits) (tick caller pc : ℕ) (effect : Effect) (t : ℕ) (s : Part) → t ≢ caller → has_effect_on_others effect ≡ false
+pub effect_kept : (limits : Limits) (tick caller pc : ℕ) (effect : Effect) (t : ℕ) (s : Part) → t ≢ caller → has_effect_on_others effect ≡ false
     → standing (pool_get (after_effect limits tick caller pc effect s).threads t) ≡ standing (pool_get s.threads t)
 effect_kept limits tick caller pc (Done cpu memory) t s differ alone = search kept depth 8
 effect_kept limits tick caller pc (EnvironmentCall cpu) t s differ alone =

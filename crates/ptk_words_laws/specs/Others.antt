@@ -1,6 +1,6 @@
 -- Which calls act on another thread than the one that makes them.
-use Rattle.std.specs.Prelude.{◌≡◌, ◌≢◌, ℕ, Bool, true, false, Option, Some, None}
-use Rattle.ptk_words.specs.Names.{Pointer, ThreadNumber, Tick}
+use Rattle.std.specs.Prelude.{◌≡◌, ◌≢◌, ℕ, Bool, true, false, List, [], Option, Some, None}
+use Rattle.ptk_words.specs.Names.{Byte, Pointer, ThreadNumber, Tick, Ticks}
 use Rattle.ptk_words.specs.declared.TheConstants.{A7}
 use Rattle.ptk_words.specs.Calls.{call_of}
 use Rattle.ptk_words.specs.Pools.{pool_get}
@@ -11,11 +11,16 @@ use Rattle.ptk_words.specs.declared.sections.Limits.{Limits}
 use Rattle.ptk_words.specs.declared.threads.Phase.{Phase}
 use Rattle.ptk_words.specs.declared.threads.Thread.{Thread}
 use Rattle.ptk_words.specs.declared.threads.Wait.{Wait}
-use Rattle.ptk_words_instructions.specs.Instructions.{Effect, Done, Call as EnvironmentCall, Break, Fault}
+use Rattle.ptk_words_instructions.specs.Instructions.{Effect, Done, Call as EnvironmentCall, Break, Fault, effect_at}
 use Rattle.ptk_words_model.specs.State.{Part}
 use Rattle.ptk_words_model.specs.declared.Invocation.{Invocation}
 use Rattle.ptk_words_model.specs.CallTable.{answer_of}
-use Rattle.ptk_words_model.specs.Decision.{after_effect}
+use Rattle.ptk_words_model.specs.Console.{arriving}
+use Rattle.ptk_words_model.specs.Decision.{after_decision, after_effect, ready_at, runner_of, step_kind}
+use Rattle.ptk_words_model.specs.Withdrawal.{due}
+use Rattle.ptk_words_model.specs.declared.Runner.{Runner}
+use Rattle.ptk_words_model.specs.declared.StepKind.{StepKind}
+use Rattle.ptk_words_model.specs.declared.StepKind.TheVariants.{UnwindingStart, GateStep, CallStep, InstructionStep}
 
 -- the call can wake, make, cancel, end or free another thread, or halts the partition (own)
 abbrev pub acts_on_others : Call → Bool
@@ -85,3 +90,23 @@ abbrev pub StepsLeaveOthers : Part → Type 0
 StepsLeaveOthers part =
     (limits : Limits) → (tick : Tick) → (caller : ThreadNumber) → (pc : Pointer) → (effect : Effect) → (t : ℕ) → t ≢ caller → has_effect_on_others effect ≡ false
     → standing (pool_get (after_effect limits tick caller pc effect part).threads t) ≡ standing (pool_get part.threads t)
+
+-- ---- whole decisions
+
+-- so of a step by its kind, of a thread in a partition with this memory: a step at the return gate can end its thread (own)
+abbrev pub acts_on_others_by : StepKind → Runner → List Byte → Bool
+acts_on_others_by UnwindingStart r memory = false
+acts_on_others_by GateStep r memory = true
+acts_on_others_by (CallStep number) r memory = has_effect_on_others (effect_at r.thread.cpu memory)
+acts_on_others_by InstructionStep r memory = has_effect_on_others (effect_at r.thread.cpu memory)
+
+-- the thread does not run, and the step of the one that does acts on no other (own)
+abbrev pub IsLeftBy : ℕ → Part → Option Runner → Type 0
+IsLeftBy t ready None = Unit {0}
+IsLeftBy t ready (Some r) = (t ≢ r.number) × (acts_on_others_by (step_kind ready r.number r.thread) r ready.memory ≡ false)
+
+-- a decision at a tick by which no input arrives and no deadline expires leaves such a thread with the wait and the phase that it had (own)
+abbrev pub DecisionsLeaveOthers : Part → Type 0
+DecisionsLeaveOthers part =
+    (limits : Limits) → (tick : Tick) → (room : Ticks) → (t : ℕ) → arriving tick part.console ≡ [] → due tick part ≡ [] → IsLeftBy t (ready_at limits tick part) (runner_of (ready_at limits tick part))
+    → standing (pool_get (after_decision limits tick room part).threads t) ≡ standing (pool_get part.threads t)

@@ -9,7 +9,7 @@ ghost use Rattle.ptk_words_model.specs.State.{Mutex, Console, Part};
 ghost use Rattle.ptk_words_model.specs.Withdrawal.{Expiry};
 ghost use Rattle.ptk_words_laws.specs.Laws.{CostsAreSmall, CallsAreNumbered, ChainIsDecided, PriorityIsGreatest, ArrivalsAreDue, IsInOrder};
 ghost use Rattle.ptk_words_laws.specs.Callers.{CallsKeepCallers, StepsKeepCallers, StepsRunNoOthers};
-ghost use Rattle.ptk_words_laws.specs.Others.{CallsLeaveOthers, StepsLeaveOthers};
+ghost use Rattle.ptk_words_laws.specs.Others.{CallsLeaveOthers, DecisionsLeaveOthers, StepsLeaveOthers};
 ghost use Rattle.ptk_words_laws.specs.Sizes.{StartIsSized, CallsKeepSizes, DecisionsKeepSizes, SizesStay};
 
 /// Every number costs 1 to 16 ticks, and the greatest cost is 16.
@@ -73,6 +73,12 @@ pub fn calls_leave_others()
 /// the ECALL of a call that acts on others.
 pub fn steps_leave_others()
     ensures { (part : Part) → StepsLeaveOthers part }
+{}
+
+/// A decision at a tick by which no input arrives and no deadline expires leaves each thread but the one that runs then
+/// with the wait and the phase that it had, unless that one's step acts on others.
+pub fn decisions_leave_others()
+    ensures { (part : Part) → DecisionsLeaveOthers part }
 {}
 
 /// A call leaves its caller what is in a7, unless its number is freed, and no other thread runs behind it.
