@@ -12,4 +12,6 @@ pub mod Uses
 pub mod UsesOver
 pub mod StepsOver
 pub mod CountedTicks
+pub mod Undisturbed
+pub mod OtherThreads
 pub use Rattle.ptk_main_runs.proofs.Sent

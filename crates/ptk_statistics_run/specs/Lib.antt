@@ -5,6 +5,7 @@ pub mod Gathering
 pub mod Stretches
 pub mod Calls
 pub mod Uses
+pub mod Laws
 pub use Rattle.ptk_main_runs.specs.Members
 pub use Rattle.ptk_main_runs.specs.Missing
 pub use Rattle.ptk_main_runs.specs.PartStatus

@@ -1,8 +1,10 @@
 //! What holds of the figures of every run.
 
 ghost use Rattle.std.specs.Prelude.{Bool};
+ghost use Rattle.ptk_words_model.specs.State.{Part};
 ghost use Rattle.ptk_statistics_figures.specs.declared.doing.Doing.{Doing};
 ghost use Rattle.ptk_statistics_run.specs.Calls.{FiguresCountCalls, RowsCountCalls, StretchesSeeSteps};
+ghost use Rattle.ptk_statistics_run.specs.Laws.{OthersStayAsTheyAre, UndisturbedIsQuiet};
 ghost use Rattle.ptk_statistics_run.specs.Uses.{FiguresCountTicks};
 
 /// Behind each stretch of a run every step was looked at. So a row counts each call that is made in it, once: the call
@@ -23,4 +25,15 @@ pub fn figures_count_calls()
 /// that made them, for each number of a thread.
 pub fn figures_count_ticks()
     ensures { (is_same : Doing → Doing → Bool) → FiguresCountTicks is_same }
+{}
+
+/// Where nothing comes from outside with a partition's decision no input arrives at its tick, and no deadline expires.
+pub fn undisturbed_is_quiet()
+    ensures { (part : Part) → UndisturbedIsQuiet part }
+{}
+
+/// Where nothing comes from outside with a partition's decision each thread does behind it what it did before, unless it
+/// ran before, runs then, the step of the one that runs acts on others, or the partition's status changes.
+pub fn others_stay_as_they_are()
+    ensures { (part : Part) → OthersStayAsTheyAre part }
 {}

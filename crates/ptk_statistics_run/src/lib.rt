@@ -19,7 +19,8 @@
 //!   `step_at`, `number_in`). So is what a decision leaves of the figures of a thread that makes a step (`stepped`) and
 //!   of one that makes none (`looked_at`), and of those of the mutexes, with the waits that end and the owners that are
 //!   new (`wait_ended`, `with_owner`). All threads are looked at where a deadline expires or input arrives
-//!   (`is_disturbed_by`).
+//!   (`is_disturbed_by`); where neither is so (`undisturbed_is_quiet`), a step that acts on no other thread leaves the
+//!   others doing what they did (`others_stay_as_they_are`).
 //!
 //! The run goes on by single decisions where a call or a change may come, by rows of plain steps between, and over
 //! ticks at which nothing is due at once. Below are the figures of one partition (`ptk_statistics_figures`) and whole
@@ -37,7 +38,10 @@ mod statistics;
 mod thread;
 mod waits;
 
-pub use laws::{figures_count_calls, figures_count_ticks, rows_count_calls};
+pub use laws::{
+    figures_count_calls, figures_count_ticks, others_stay_as_they_are, rows_count_calls,
+    undisturbed_is_quiet,
+};
 pub use part::PartStatistics;
 pub use ptk_main_runs::{
     BootFault, Files, PartStatus, PutFault, RunFault, System, Value, part_named, put_members,
