@@ -71,6 +71,7 @@ module _ (is_same : Activity → Activity → Bool) (law : IsEquivalence is_same
       let quiet : begins_at world p t tick ≡ false = begins_here tick by s false at made (not-true (begins_by_step by t (activity_in t s)) tests.1) in
       let alike : is_same new.activity old.activity ≡ true = ap (λ (a : Activity). is_same a old.activity) does ∙ tests.0 in record {
         does = ap (is_same (activity_in t (state_of (at_tick (tick + 1) world) p).part)) here ∙ law.refl (activity_in t (state_of (at_tick (tick + 1) world) p).part);
+        within = λ some. elim seen [ inl new ↦ absurd (omega (arith, some, kept, new.1)) | inr so ↦ omega (arith, kept, so.within (omega (arith, some, kept))) ];
         since = λ k from to. swapped new.activity old.activity (activity_in t (state_of (at_tick k world) p).part) alike ∙ went_on tick old same seen k (omega (arith, from, kept)) to;
         alone = λ k from to. elim (cases_order k tick) [
           | inl last ↦ subst (λ (j : ℕ). begins_at world p t j ≡ false) (sym last) quiet
@@ -91,6 +92,7 @@ module _ (is_same : Activity → Activity → Bool) (law : IsEquivalence is_same
       let own : is_at is_same world p t (tick + 1) new.activity ≡ true =
       ap (is_same (activity_in t (state_of (at_tick (tick + 1) world) p).part)) here ∙ law.refl (activity_in t (state_of (at_tick (tick + 1) world) p).part) in record {
         does = own;
+        within = λ some. omega (arith, began);
         since = λ k from to. let last : k ≡ tick + 1 = omega (arith, from, to, began) in subst (λ (j : ℕ). is_at is_same world p t j new.activity ≡ true) (sym last) own;
         alone = λ k from to. absurd (omega (arith, from, to, began));
         other = λ some. elim (and_cases (is_same (activity_in t s) old.activity) (not (begins_by_step by t (activity_in t s))) goes) [
@@ -107,6 +109,7 @@ module _ (is_same : Activity → Activity → Bool) (law : IsEquivalence is_same
       → ((k : ℕ) → from ≤ k → k < to → begins_at world p t k ≡ false) → IsSince is_same world p t from history → IsSince is_same world p t to history
   stayed_on from to history order stays quiet so = record {
     does = ap (λ (a : Activity). is_same a history.activity) (stays to order (omega arith)) ∙ so.does;
+    within = λ some. omega (arith, order, so.within some);
     since = λ k begun within. elim (cases_order k from) [
       | inl same ↦ so.since k begun (omega (arith, same))
       | inr apart ↦ elim apart [

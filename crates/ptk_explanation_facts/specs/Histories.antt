@@ -31,7 +31,7 @@ least_before (Blocked wait) least = least
 least_before Ended least = least
 least_before Halted least = least
 
--- the thread whose step brought a partition from a state with so many steps to this one; None where no step was made (own)
+-- the thread whose step brought a partition from a state with this many steps to this one; None where no step was made (own)
 abbrev pub stepper : ℕ → State → Option ThreadNumber
 stepper steps after = if nat_lt steps after.account.steps then option_map (λ (entry : Entry). entry.thread) after.part.last else None
 
@@ -100,9 +100,10 @@ is_at is_same world p t tick activity = is_same (activity_in t (state_of (at_tic
 abbrev pub begins_at : World → ℕ → ThreadNumber → Tick → Bool
 begins_at world p t tick = begins_by_step (stepper_at world p tick) t (activity_in t (state_of (at_tick (tick + 1) world) p).part)
 
--- at a tick of a run the thread of a number does what its history says, and has done so behind each decision from the history's tick on, without a step by which it begins that again; with that decision it began it by such a step, or did something else before, unless it is the first (own)
+-- at a tick of a run the thread of a number does what its history says; it has done so behind each decision from the history's tick on, which is before that one or 0, without a step by which it begins that again; with that decision it began it by such a step, or did something else before, unless it is the first (own)
 pub record IsSince (is_same : Activity → Activity → Bool) (world : World) (p t tick : ℕ) (history : History) : Type 0 where
   pub does : is_at is_same world p t tick history.activity ≡ true
+  pub within : 0 < history.since → history.since < tick
   pub since : (k : ℕ) → history.since < k → k ≤ tick → is_at is_same world p t k history.activity ≡ true
   pub alone : (k : ℕ) → history.since < k → k < tick → begins_at world p t k ≡ false
   pub other : 0 < history.since → (is_at is_same world p t history.since history.activity ≡ false) ⊎ (begins_at world p t history.since ≡ true)

@@ -159,7 +159,7 @@ fn watch(system: &mut System<'_>, p: PartId, to: Tick, histories: &mut [History]
     system.run_to(to);
 }
 
-/// The thread that made the step since the partition had made so many, None where none was made.
+/// The thread that made the step since the partition had made this many steps, None where none was made.
 fn stepper(system: &System<'_>, p: PartId, steps: u64) -> Option<ThreadNo>
     requires { p < length system.now.config.sections }
     ensures { result ≡ stepper steps (state_of system.now p) }

@@ -12,7 +12,7 @@
 //!   is named once, from its least number on (`begins_cycle`).
 //! - A history of a thread is what was seen of it at the partition's decisions, each time by `looked`, over the run of
 //!   `run_to` (`histories`): what the thread does in the end it has done since the decision that its history names,
-//!   and not begun again by a step of its own (`since`), and its least stack pointer is the least that was seen
+//!   and has not begun again by a step of its own (`since`), and its least stack pointer is the least that was seen
 //!   (`seen`: `history_over`). From behind each look on and up to the next one the partition goes on as is: each thread
 //!   does what it did, no tick is lost, and each step is of the thread that ran behind the look (`AreLooks`).
 //!

@@ -71,7 +71,7 @@ pub record IsOnWay (until_halted : Bool) (last : ℕ) (world : World) : Type 0 w
 abbrev pub AreStill : World → ℕ → Type 0
 AreStill world to = (p : ℕ) → p < length world.config.sections → (k : ℕ) → world.tick ≤ k → k ≤ to → but_next (state_of (at_tick k world) p) ≡ but_next (state_of world p)
 
--- where a run to a last tick stops next: at a multiple of HALT_STRIDE, or at the last tick. On request every partition has halted at a multiple that it passes over only if it has here, and where nothing changes up to a tick it comes nearer to that than HALT_STRIDE; else it goes on by WATCH_STRIDE (own)
+-- where a run to a last tick stops next: at most WATCH_STRIDE on, at a multiple of HALT_STRIDE or at the last tick. Where it is to end once all have halted, they have halted at a multiple that it passes over only if they have here, and a tick up to which nothing changes is less than HALT_STRIDE behind the stop. Where it is not, it goes on by WATCH_STRIDE, or to the last tick (own)
 pub record IsNextStop (until_halted : Bool) (last : ℕ) (world : World) (stop : ℕ) : Type 0 where
   pub later : world.tick < stop
   pub within : stop ≤ last

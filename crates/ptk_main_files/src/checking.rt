@@ -254,7 +254,7 @@ fn explanation(alloc: Global, text: &str, files: &Files) -> Result<String, Fault
     }
 }
 
-// The bytes of that, in memory: a write of them fails for want of memory alone.
+// The bytes of that, in memory: a write of them fails only where memory runs out.
 fn explained_bytes(alloc: Global, text: &str, files: &Files) -> Result<Vec<u8>, Fault<'static>>
     ensures written { IfOk result (λ bytes. PutsExplanation text.now files.now (Some []) (Some bytes.items)) }
     ensures failed { IfErr result (λ fault. fault ≡ Fault.NoMemory) }

@@ -31,7 +31,7 @@ IsEndStatus P Q status = ((status ≡ status_number Done) × P) ⊎ IsFaultStatu
 abbrev pub IsTextStatus : (Fault → Type 0) → Bor (List ℕ) → (List ℕ → ℕ → Type 0) → ℕ → Type 0
 IsTextStatus Q name P status = IsFaultStatus (λ fault. IsTextFault name fault × Q fault) status ⊎ ((bytes : List ℕ) × P bytes status)
 
--- the status is that of a fault of the file of this name that is not read as text, where a further statement holds, or it is as it has to be with the text that the file was read as (own)
+-- the file of this name is not read as text, the status is that of the fault, and this holds besides; or it is so with the text that the file was read as (own)
 abbrev pub IsReadStatus : (List ℕ → Option (List ℕ) → Type 0) → Type 0 → Bor (List ℕ) → (List ℕ → ℕ → Type 0) → ℕ → Type 0
 IsReadStatus reads Q name P status =
     IsFaultStatus (λ fault. IsUnreadText reads name fault × Q) status ⊎ ((bytes : List ℕ) × reads name.now (Some bytes) × P bytes status)

@@ -14,7 +14,7 @@
 //!   are those that its threads made, as many of each as there are such steps (`figures_count_calls`: `calls_below`).
 //! - Each own tick counts as what became of it: used by a step, idle, lost, or after the halt; and each step counts for
 //!   the thread that made it (`figures_count_ticks`: `uses_below`, `steps_below`). So the lost ticks that lie ahead are
-//!   those that the system counts more.
+//!   those that the system counts beyond those that are past.
 //! - What a thread does, which step a decision began, and which call that step is are the definitions' (`doing_of`,
 //!   `step_at`, `number_in`). So is what a decision leaves of the figures of a thread that makes a step (`stepped`) and
 //!   of one that makes none (`looked_at`), and of those of the mutexes, with the waits that end and the owners that are

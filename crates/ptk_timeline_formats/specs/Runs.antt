@@ -74,7 +74,7 @@ pub record Scene : Type 0 where
 abbrev pub IsLatest : World → ℕ → ℕ → ℕ → Type 0
 IsLatest world p end due = (k : ℕ) → k ≤ end → ((j : ℕ) → world.tick ≤ j → j ≤ k → but_next (state_of (at_tick j world) p) ≡ but_next (state_of world p)) → k ≤ due
 
--- a system goes on over plain steps to a later tick, at most the window's end, and each thread of a partition does what it did; then nothing of the partition changes up to the tick that is due, the latest such, which is not before that one, but at the window's end (own)
+-- a system goes on over plain steps to a later tick, at most the window's end, and each thread of a partition does what it did; then nothing of the partition changes up to the tick that is due, the latest such up to the window's end, which is not before that later tick unless this is past the window's end (own)
 pub record IsPassage (p begin end : ℕ) (first later : World) (due : ℕ) : Type 0 where
   pub goes_on : later ≡ at_tick later.tick first
   pub on : first.tick ≤ later.tick
