@@ -125,7 +125,7 @@ Exit status:
   1  ptk: image IMAGE fault N (see 'ptk check --help'), ptk: image IMAGE too long SECTION: its text, data or
      bss is longer than the 1048576 bytes that a source may have, ptk: missing file NAME, ptk: not text NAME,
      ptk: symbols NAME line L
-  2  usage; IMAGE and OUT are one file
+  2  usage; OUT is one file with IMAGE or the file of --symbols
   3  ptk: read failed NAME, ptk: write failed, ptk: no memory
 
 Example:

@@ -5,7 +5,7 @@
 //! - `read_line` returns a request only where clap's meaning of the command gives the words that subcommand and the
 //!   values of each of its options (`IsRun` to `IsExplain`), at most 2^40 ticks.
 //! - An error is of the kind that clap gives it, or memory ran out, or clap takes the words and they ask for nothing.
-//! - `not_text`, `one_file` and `over_image` are usage errors.
+//! - `not_text`, `one_file` and `over_input` are usage errors.
 //!
 //! `undecoded` is the error of a trace that is chosen from without words. Each command's options are a struct, pinned
 //! by a definition of `specs/Requests`. Below is the crate `clap`; above is the program, which prints an error by
@@ -18,7 +18,7 @@ mod requests;
 mod values;
 
 pub use line::{
-    MOST_STEPS, MOST_THREADS, MOST_TICKS, not_text, one_file, over_image, read_line, undecoded,
+    MOST_STEPS, MOST_THREADS, MOST_TICKS, not_text, one_file, over_input, read_line, undecoded,
 };
 pub use requests::{
     AsmOptions, CheckOptions, DisasmOptions, ExplainOptions, FailOn, Format, ImpactOptions,

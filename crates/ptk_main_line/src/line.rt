@@ -79,15 +79,15 @@ pub fn one_file(alloc: Global) -> Result<Error, AllocError>
     )
 }
 
-/// The error of `disasm` where OUT is the image, which would be written over: a usage error. An error where memory runs
-/// out.
-pub fn over_image(alloc: Global) -> Result<Error, AllocError>
+/// The error of `disasm` where OUT is the image or the file of its symbols, which would be written over: a usage error.
+/// An error where memory runs out.
+pub fn over_input(alloc: Global) -> Result<Error, AllocError>
     ensures { IfOk result (λ e. kind_of e ≡ ArgumentConflict) }
 {
     refusal(
         alloc,
         ErrorKind::ArgumentConflict,
-        "IMAGE and OUT are one file",
+        "OUT is one file with IMAGE or the file of --symbols",
     )
 }
 
