@@ -11,7 +11,7 @@ use Rattle.ptk_main_faults.specs.declared.fault.Fault.{Fault}
 use Rattle.ptk_main_faults.specs.declared.fault.Fault.TheVariants.{WriteFailed}
 use Rattle.ptk_main_faults.specs.declared.status.ExitStatus.TheVariants.{Done}
 use Rattle.ptk_main_tools.specs.Ends.{IsAsmEnd, IsAsmOf, IsAsmOver, IsAsmStatus, IsDisasmEnd, IsDisasmOf, IsDisasmOver, IsDisasmStatus, IsEndStatus, IsReadStatus, IsTextStatus}
-use Rattle.ptk_main_tools.specs.Refusals.{IsDisasmFault, IsDisasmRefusal, IsImageTextFault, IsOverImage}
+use Rattle.ptk_main_tools.specs.Refusals.{IsDisasmFault, IsDisasmRefusal, IsImageTextFault, IsOverInput}
 use Rattle.ptk_main_tools.specs.Sources.{AreMixed, IsAsmFault}
 use Rattle.ptk_main_tools.specs.Usage.{IsUsageStatus}
 use Rattle.ptk_main_tools.specs.Written.{Disassembles, IsAssembled, IsDisassembled, WritesFiles}
@@ -108,6 +108,6 @@ disasm_read reads writes options before after old new status (inr failed) =
     inr (failed.0, (disasm_refused reads options failed.0 failed.1.0, λ other. (failed.1.1 other).1), failed.2)
 
 pub disasm_end : {F : Type 0} (finds : List ℕ → List ℕ → Bool → Type 0) (reads : List ℕ → Option (List ℕ) → Type 0) (writes : F → List ℕ → List ℕ → F → Type 0) (options : DisasmOptions) (before after : F) (old new : Option (List ℕ)) (status : ℕ)
-    → (IsOverImage options → IsUsageStatus status) → IsDisasmOver finds reads writes options before after old new status → IsDisasmEnd options old new status
+    → (IsOverInput options → IsUsageStatus status) → IsDisasmOver finds reads writes options before after old new status → IsDisasmEnd options old new status
 disasm_end finds reads writes options before after old new status over (inl one) = (over, inl (one.1, one.3))
 disasm_end finds reads writes options before after old new status over (inr apart) = (over, inr (disasm_read reads writes options before after old new status apart.1))

@@ -10,7 +10,7 @@ use Rattle.ptk_main_faults.specs.declared.fault.Fault.{Fault}
 use Rattle.ptk_main_faults.specs.declared.fault.Fault.TheVariants.{WriteFailed}
 use Rattle.ptk_main_faults.specs.declared.status.ExitStatus.TheVariants.{Done}
 use Rattle.ptk_main_tools.specs.Reading.{IsTextFault, IsUnreadText}
-use Rattle.ptk_main_tools.specs.Refusals.{IsApartFromImage, IsDisasmFault, IsDisasmRefusal, IsOneWithImage, IsOverImage}
+use Rattle.ptk_main_tools.specs.Refusals.{IsApartFromInputs, IsDisasmFault, IsDisasmRefusal, IsOneWithInput, IsOverInput}
 use Rattle.ptk_main_tools.specs.Sources.{AreApart, AreMixed, AreOne, IsAsmFault}
 use Rattle.ptk_main_tools.specs.Usage.{IsUsageStatus}
 use Rattle.ptk_main_tools.specs.Written.{Disassembles, IsAssembled, IsDisassembled}
@@ -51,10 +51,10 @@ abbrev pub IsDisasmStatus : DisasmOptions → Option (List ℕ) → Option (List
 IsDisasmStatus options old new status =
     IsEndStatus (IsDisassembled options old new) (λ fault. IsDisasmFault options fault × (fault ≢ WriteFailed → new ≡ old)) status
 
--- `disasm`: a usage error where the text's file has the words of the image's, and else by the text, unless the two are one; by a usage error nothing is written (own)
+-- `disasm`: a usage error where the text's file has the words of the image's or of that of the symbols, and else by the text, unless two are one; by a usage error nothing is written (own)
 abbrev pub IsDisasmEnd : DisasmOptions → Option (List ℕ) → Option (List ℕ) → ℕ → Type 0
 IsDisasmEnd options old new status =
-    (IsOverImage options → IsUsageStatus status) × ((IsUsageStatus status × (new ≡ old)) ⊎ IsDisasmStatus options old new status)
+    (IsOverInput options → IsUsageStatus status) × ((IsUsageStatus status × (new ≡ old)) ⊎ IsDisasmStatus options old new status)
 
 -- ---- asm over any files
 
@@ -76,8 +76,8 @@ abbrev pub IsDisasmOf : {F : Type 0} → (List ℕ → Option (List ℕ) → Typ
 IsDisasmOf reads writes options before after old new status =
     IsEndStatus (Disassembles reads writes options before after old new) (λ fault. IsDisasmRefusal reads options fault × (fault ≢ WriteFailed → (after ≡ before) × (new ≡ old))) status
 
--- a usage error where the text's file was found to be the image's, and nothing is written then; and else by the text (own)
+-- a usage error where the text's file was found to be the image's or that of the symbols, and nothing is written then; and else by the text (own)
 abbrev pub IsDisasmOver : {F : Type 0} → (List ℕ → List ℕ → Bool → Type 0) → (List ℕ → Option (List ℕ) → Type 0) → (F → List ℕ → List ℕ → F → Type 0) → DisasmOptions → F → F → Option (List ℕ) → Option (List ℕ) → ℕ → Type 0
 IsDisasmOver finds reads writes options before after old new status =
-    (IsOneWithImage finds options × IsUsageStatus status × (after ≡ before) × (new ≡ old))
-    ⊎ (IsApartFromImage finds options × IsDisasmOf reads writes options before after old new status)
+    (IsOneWithInput finds options × IsUsageStatus status × (after ≡ before) × (new ≡ old))
+    ⊎ (IsApartFromInputs finds options × IsDisasmOf reads writes options before after old new status)

@@ -14,17 +14,25 @@ use Rattle.ptk_main_tools.specs.Reading.{IsNamedText, IsReadFault, IsSymbolsFaul
 
 -- ---- the files
 
--- the text's file has the words of the image's (own)
-abbrev pub IsOverImage : DisasmOptions → Type 0
-IsOverImage options = IsSomeAnd options.target (λ target. options.image.now ≡ target.now)
+-- so it is with a file that is read, the image's or that of the symbols if one is named, and with a file of this name (own)
+abbrev pub WithInput : (List ℕ → List ℕ → Type 0) → DisasmOptions → List ℕ → Type 0
+WithInput P options name = P options.image.now name ⊎ IsSomeAnd options.symbols (λ symbols. P symbols.now name)
 
--- the text's file and the image's were found to be one; `finds` says of two paths that they are one file, or are not (own)
-abbrev pub IsOneWithImage : (List ℕ → List ℕ → Bool → Type 0) → DisasmOptions → Type 0
-IsOneWithImage finds options = IsSomeAnd options.target (λ target. finds options.image.now target.now true)
+-- the text's file has the words of the image's or of that of the symbols (own)
+abbrev pub IsOverInput : DisasmOptions → Type 0
+IsOverInput options = IsSomeAnd options.target (λ target. WithInput (λ input name. input ≡ name) options target.now)
 
--- the text's file, if one is named, was found to be another than the image's (own)
-abbrev pub IsApartFromImage : (List ℕ → List ℕ → Bool → Type 0) → DisasmOptions → Type 0
-IsApartFromImage finds options = IfSome options.target (λ target. finds options.image.now target.now false)
+-- the text's file and the image's, or that of the symbols, were found to be one; `finds` says of two paths that they are one file, or are not (own)
+abbrev pub IsOneWithInput : (List ℕ → List ℕ → Bool → Type 0) → DisasmOptions → Type 0
+IsOneWithInput finds options = IsSomeAnd options.target (λ target. WithInput (λ input name. finds input name true) options target.now)
+
+-- a file of this name was found to be another than the image's and, if one is named, than that of the symbols (own)
+abbrev pub IsNoInput : (List ℕ → List ℕ → Bool → Type 0) → DisasmOptions → List ℕ → Type 0
+IsNoInput finds options name = finds options.image.now name false × IfSome options.symbols (λ symbols. finds symbols.now name false)
+
+-- the text's file, if one is named, was found to be another than those that are read (own)
+abbrev pub IsApartFromInputs : (List ℕ → List ℕ → Bool → Type 0) → DisasmOptions → Type 0
+IsApartFromInputs finds options = IfSome options.target (λ target. IsNoInput finds options target.now)
 
 -- ---- the text
 

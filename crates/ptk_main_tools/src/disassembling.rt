@@ -1,11 +1,11 @@
 //! `disasm`: the assembler text of an image.
 
-ghost use Rattle.std.specs.Prelude.{◌≡◌, ◌≢◌, false, Ok, IfOk, IfErr, IsTrue, OnOk, string_bytes};
+ghost use Rattle.std.specs.Prelude.{◌≡◌, ◌≢◌, true, false, Ok, IfOk, IfErr, IsTrue, OnOk, string_bytes};
 ghost use Rattle.std.specs.Io.KnownBytes.{Appends};
 ghost use Rattle.ptk_words.specs.Image.{ImageParts, image_of};
 ghost use Rattle.ptk_asm_language.specs.Source.{source};
 ghost use Rattle.ptk_main_tools.specs.Ends.{IsDisasmEnd, IsDisasmOver};
-ghost use Rattle.ptk_main_tools.specs.Refusals.{HasNoSource, IsApartFromImage, IsDisasmFault, IsDisasmRefusal, IsImageTextFault, IsOneWithImage, IsOverImage};
+ghost use Rattle.ptk_main_tools.specs.Refusals.{HasNoSource, IsApartFromInputs, IsDisasmFault, IsDisasmRefusal, IsImageTextFault, IsNoInput, IsOneWithInput, IsOverInput, WithInput};
 ghost use Rattle.ptk_main_tools.specs.Usage.{IsUsageStatus};
 ghost use Rattle.ptk_main_tools.specs.Written.{Disassembles, IsDisassembled, IsShown, IsTextOf, WritesSource, WritesText};
 
@@ -15,13 +15,13 @@ use crate::telling::{end, tell, usage};
 use ptk_disasm::{DisasmFault, disassemble_with};
 use ptk_image::read_image;
 use ptk_main_faults::Fault;
-use ptk_main_line::{DisasmOptions, over_image};
+use ptk_main_line::{DisasmOptions, over_input};
 use ptk_symbols::Symbols;
 use std::alloc::Global;
 use std::io::Write;
 
 /// Writes the text of the image in a file, as `disasm_file` does, and gives the number of the status. Nothing is
-/// written where the text's file is that of the image.
+/// written where the text's file is that of the image or of the symbols.
 pub fn disasm<W: Write>(rt: &HostRuntime, options: DisasmOptions<'_>, out: &mut W) -> u8
     ensures { IsDisasmEnd options.entry (W.contents out.old) (W.contents out.new) result }
 {
@@ -29,8 +29,8 @@ pub fn disasm<W: Write>(rt: &HostRuntime, options: DisasmOptions<'_>, out: &mut 
     disasm_apart(rt, options, &HostFiles::of(rt), files, out)
 }
 
-// Writes the text of the image as `disasm_by` does, where its file is not that of the image, and gives the number of
-// the status.
+// Writes the text of the image as `disasm_by` does, where its file is not one that is read, and gives the number of the
+// status.
 fn disasm_apart<R: FileReader, F: FileWriter, W: Write>(
     rt: &HostRuntime,
     options: DisasmOptions<'_>,
@@ -38,32 +38,47 @@ fn disasm_apart<R: FileReader, F: FileWriter, W: Write>(
     files: &mut F,
     out: &mut W,
 ) -> u8
-    ensures over { IsOverImage options.entry → IsUsageStatus result }
+    ensures over { IsOverInput options.entry → IsUsageStatus result }
     ensures whole { IsDisasmOver (R.finds reader.now) (R.reads reader.now) F.writes options.entry files.old files.new (W.contents out.old) (W.contents out.new) result }
 {
-    if is_over_image(reader, options) {
+    if is_over_input(reader, options) {
         return refuse_over(rt);
     }
     end(rt, disasm_by(rt, options, reader, files, out))
 }
 
-// Whether the text's file is that of the image.
-fn is_over_image<R: FileReader>(reader: &R, options: DisasmOptions<'_>) -> bool
-    ensures same { IsOverImage options.entry → IsTrue result }
-    ensures one { IsTrue result → IsOneWithImage (R.finds reader.now) options.entry }
-    ensures apart { result ≡ false → IsApartFromImage (R.finds reader.now) options.entry }
+// Whether the text's file is one that is read.
+fn is_over_input<R: FileReader>(reader: &R, options: DisasmOptions<'_>) -> bool
+    ensures same { IsOverInput options.entry → IsTrue result }
+    ensures one { IsTrue result → IsOneWithInput (R.finds reader.now) options.entry }
+    ensures apart { result ≡ false → IsApartFromInputs (R.finds reader.now) options.entry }
 {
     match options.target {
-        Some(target) => reader.is_one_file(options.image, target),
+        Some(target) => is_input(reader, options, target),
         None => false,
     }
 }
 
-// The status of a command line of which the text's file is that of the image.
+// Whether the file of this name is that of the image or of the symbols.
+fn is_input<R: FileReader>(reader: &R, options: DisasmOptions<'_>, name: &str) -> bool
+    ensures same { WithInput (λ input name. input ≡ name) options.entry name.now → IsTrue result }
+    ensures one { IsTrue result → WithInput (λ input name. R.finds reader.now input name true) options.entry name.now }
+    ensures apart { result ≡ false → IsNoInput (R.finds reader.now) options.entry name.now }
+{
+    if reader.is_one_file(options.image, name) {
+        return true;
+    }
+    match options.symbols {
+        Some(symbols) => reader.is_one_file(symbols, name),
+        None => false,
+    }
+}
+
+// The status of a command line of which the text's file is one that is read.
 fn refuse_over(rt: &HostRuntime) -> u8
     ensures { IsUsageStatus result }
 {
-    match over_image(rt.alloc()) {
+    match over_input(rt.alloc()) {
         Ok(error) => usage(rt, &error),
         Err(_) => tell(rt, &Fault::NoMemory),
     }

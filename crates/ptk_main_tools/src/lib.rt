@@ -21,8 +21,8 @@
 //!   (`disassembled_with`) and a source of that image; of bytes that are no image the fault is that of the format
 //!   (`text_of`). The image and the symbols are what their files were read as, and the text is written into the file
 //!   that is named, and else on the writer (`disasm_by`). Where it fails before, nothing is written. It is a usage
-//!   error where the text's file has the words of the image's, and else only where the two were found to be one;
-//!   nothing is written then (`disasm_apart`).
+//!   error where the text's file has the words of the image's or of that of the symbols, and else only where it was
+//!   found to be one of the two; nothing is written then (`disasm_apart`).
 //! - All this is so over any reader and any writer of files. `text_in`, `config_in`, `symbols_text_in`, `images_of`,
 //!   `asm` and `disasm` each hand what they are given to one of these functions, with the host's files: that they do
 //!   so, and what the host then reads and writes, is tested. That what goes to standard error, and the text of a
