@@ -80,7 +80,7 @@ const BYTES: [(&str, &[u8]); 6] = [
 ];
 
 /// Command lines with their statuses, in this order: some read what others before them wrote.
-const COMMANDS: [(&str, u8); 86] = [
+const COMMANDS: [(&str, u8); 88] = [
     ("ptk", 2),
     ("ptk --help", 0),
     ("ptk run alone.toml --ticks 1099511627777", 2),
@@ -226,6 +226,9 @@ const COMMANDS: [(&str, u8); 86] = [
     ("ptk disasm hello.img hello.img", 2),
     ("ptk disasm hello.img ./hello.img", 2),
     ("ptk disasm none.img none.img", 2),
+    // it is that of the symbols
+    ("ptk disasm named.img named.sym --symbols named.sym", 2),
+    ("ptk disasm named.img ./named.sym --symbols named.sym", 2),
 ];
 
 /// The files that the commands wrote or left, in the end.
