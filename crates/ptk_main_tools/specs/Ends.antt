@@ -1,5 +1,5 @@
 -- Which status a request ends with, by what came of it and of the file that it reads first.
-use Rattle.std.specs.Prelude.{◌≡◌, ◌≢◌, ◌⊎◌, ℕ, Bool, List, Option, Some, IsErr, IsOk}
+use Rattle.std.specs.Prelude.{◌≡◌, ◌≢◌, ◌⊎◌, ℕ, Bool, List, Option, Some, IsErr, IsOk, IsSome}
 use Rattle.std.specs.Borrow.{Bor}
 use Rattle.ptk_asm_language.specs.Source.{source}
 use Rattle.ptk_main_line.specs.declared.requests.AsmOptions.{AsmOptions}
@@ -51,10 +51,10 @@ abbrev pub IsDisasmStatus : DisasmOptions → Option (List ℕ) → Option (List
 IsDisasmStatus options old new status =
     IsEndStatus (IsDisassembled options old new) (λ fault. IsDisasmFault options fault × (fault ≢ WriteFailed → new ≡ old)) status
 
--- `disasm`: a usage error where the text's file has the words of the image's or of that of the symbols, and else by the text, unless two are one; by a usage error nothing is written (own)
+-- `disasm`: a usage error where the text's file has the words of the image's or of that of the symbols, and else by the text, unless a file is named for it and two are one; by a usage error nothing is written (own)
 abbrev pub IsDisasmEnd : DisasmOptions → Option (List ℕ) → Option (List ℕ) → ℕ → Type 0
 IsDisasmEnd options old new status =
-    (IsOverInput options → IsUsageStatus status) × ((IsUsageStatus status × (new ≡ old)) ⊎ IsDisasmStatus options old new status)
+    (IsOverInput options → IsUsageStatus status) × ((IsSome options.target × IsUsageStatus status × (new ≡ old)) ⊎ IsDisasmStatus options old new status)
 
 -- ---- asm over any files
 
