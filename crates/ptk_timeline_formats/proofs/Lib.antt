@@ -20,3 +20,5 @@ pub mod Effects
 pub mod Readings
 pub mod Firsts
 pub mod ReadRuns
+pub mod Others
+pub mod Steps
