@@ -1,12 +1,14 @@
-use Rattle.std.proofs.Common.{ℕ, List, ◌∙◌, subst, take}
-use Rattle.std.specs.Prelude.{not}
+use Rattle.std.proofs.Common.{ℕ, List, ◌∙◌, refl, ap₂, subst, take}
+use Rattle.std.specs.Prelude.{Option, not}
 use Rattle.std.specs.Bool.{then_some}
 use Rattle.std.specs.Option.{option_eq}
+use Rattle.std.specs.Vec.{with_items}
 use Rattle.std.proofs.lemmas.Result.{IfOk-weaker, on_ok_weaker}
 use Rattle.std.specs.Io.KnownBytes.{Appends}
 use Rattle.ptk_words.specs.declared.TheConstants.{THREAD_LIMIT}
 use Rattle.ptk_words.specs.contracts.numbers.ThreadNoPartialEq.TheImpl as number_eq
 use Rattle.ptk_timeline_changes.below.ptk_system.specs.contracts.status.PartStatusPartialEq.TheImpl as status_eq
+use Rattle.ptk_timeline_changes.specs.PartStatus.{PartStatus}
 use Rattle.ptk_timeline_changes.specs.World.{state_of}
 use Rattle.ptk_timeline_changes.specs.declared.change.ShownSince.{ShownSince}
 use Rattle.ptk_timeline_changes.specs.declared.change.Change.TheVariants.{Status, Runner}
@@ -20,6 +22,14 @@ use Rattle.ptk_timeline_formats.proofs.Texts.{change_if_other, part_written}
 use Rattle.ptk_timeline_formats.proofs.Reached.{part_reached}
 use Rattle.ptk_timeline_formats.proofs.Traces.{part_traced}
 use Rattle.ptk_timeline_formats.proofs.view.PartView.show.Goals as goal
+
+pub returns-clause-kept : goal.returns-clause-kept
+returns-clause-kept g c =
+    ap₂ (λ (status : PartStatus) (runner : Option ℕ). record (c.args.self.now) { status = status; runner = runner; threads = with_items c.args.self.now.threads c.show_threads.new.threads })
+    c.status_of-status.ensures c.runner_of-runner.ensures
+
+pub returns-clause-count : goal.returns-clause-count
+returns-clause-count g c = refl
 
 pub returns-clause-reached : goal.returns-clause-reached
 returns-clause-reached g c = λ vcd.
