@@ -9,5 +9,5 @@ pub use Rattle.ptk_gate_steps.specs.NextSteps
 pub use Rattle.ptk_gate_steps.specs.Steady
 pub use Rattle.ptk_gate_steps.specs.Stretches
 pub use Rattle.ptk_gate_steps.specs.declared.quiet_stops.Quiet
-pub use Rattle.ptk_gate_steps.specs.declared.turns.NextStep
+pub use Rattle.ptk_gate_steps.specs.NextStep
 pub use Rattle.ptk_gate_pools.specs.Blank

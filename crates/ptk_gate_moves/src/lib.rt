@@ -1,12 +1,14 @@
 #![tactic(auto)]
 
 //! The moves composed of several: reply, refuse, block, halt, the end of a turn, a round-robin interval, the
-//! beginning of a thread and of an unwinding, and cancellation points.
+//! beginning of a thread and of an unwinding, and cancellation points; and what the running thread's next step is.
 //!
 //! - The model's moves that write several components, each one equation over the pools: `reply`, `refuse`, `succeed`,
 //!   `block`, `halt`, `push_tail`, `end_turn`, `step_back`, `count_interval`, `begin` (a thread),
 //!   `start_unwinding`, `call_routine`, `cancel` (at a cancellation point).
 //! - Calls 0, 11 and 14: `exit`, `leave`, `own_number`.
+//! - By a `Look` at one partition: what the next step is, the registers that it starts from, and what the trace keeps
+//!   of it (`next_step`, `runner`, `registers`, `a0_after`).
 //!
 //! Besides there is what a word of a guest means: a thread, a priority, a deadline, a place in memory. Below is
 //! `ptk_gate_pools`, whose `Pools`, `Look` and specs are passed on to the crates above: `ptk_gate_services`,
@@ -22,6 +24,7 @@ mod places;
 mod replies;
 mod targets;
 mod times;
+mod turns;
 mod unwinding;
 mod words;
 
@@ -36,5 +39,6 @@ pub use ptk_threads::ThreadField;
 pub use replies::{refuse, reply, succeed, succeed_with, succeed_with_two};
 pub use targets::{named_thread, target};
 pub use times::asked_deadline;
+pub use turns::{NextStep, a0_after, next_step, registers, runner, word_fetched};
 pub use unwinding::{call_routine, start_unwinding};
 pub use words::{WORD_VALUES, is_pointer, named_priority, policy_number};

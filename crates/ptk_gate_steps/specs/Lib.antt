@@ -8,3 +8,4 @@ pub mod Replies
 pub mod Decisions
 pub mod Stretches
 pub mod StepsApart
+pub use Rattle.ptk_gate_moves.specs.declared.turns.NextStep

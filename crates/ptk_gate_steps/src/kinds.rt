@@ -1,23 +1,11 @@
-//! What a step fetches, and what it costs.
+//! What a step costs.
 
 ghost use Rattle.std.specs.Prelude.{◌≡◌, ℕ, ◌<◌, ◌≤◌};
 ghost use Rattle.ptk_words.specs.Calls.{call_of, cost_of};
-ghost use Rattle.ptk_words_model.specs.Decision.{word_fetched, step_cost};
+ghost use Rattle.ptk_words_model.specs.Decision.{step_cost};
 
-use ptk_words::{Call, UNKNOWN_TICKS, cost, read_word};
+use ptk_words::{Call, UNKNOWN_TICKS, cost};
 use ptk_words_model::StepKind;
-
-/// The word at the pc, 0 where none can be fetched.
-pub(crate) fn word_fetched(memory: &[u8], pc: u32) -> u32
-    ensures { result ≡ word_fetched memory.now pc }
-{
-    let at = pc as usize;
-    if pc % 4 == 0 && at + 4 <= memory.len() {
-        read_word(memory, at)
-    } else {
-        0
-    }
-}
 
 /// The ticks of a step that begins an unwinding, and of one at the return gate (own choice).
 const GATE_TICKS: u32 = 4;

@@ -1,11 +1,10 @@
 #![tactic(auto)]
 
-//! The running thread's next step, its cost and what the trace keeps of it; up to which tick nothing but its steps can
-//! come, or that there is nothing to do; and plain steps and quiet calls in a row.
+//! What a step costs, and the step of an instruction; up to which tick nothing but the running thread's steps can come,
+//! or that there is nothing to do; and plain steps and quiet calls in a row.
 //!
+//! - The ticks of a step are those of its kind (`step_cost`), and of a call those of its number (`call_cost`).
 //! - The step of an instruction is one equation over the pools (`instruct`).
-//! - By a `Look` at one partition: what the next step is and costs, the registers that it starts from, and what the
-//!   trace keeps of it (`next_step`, `step_cost`, `registers`, `a0_after`).
 //! - The ticks up to which the partition only computes (`quiet_until`; `prepared_until` where the running thread is
 //!   known to be chosen) or has nothing to do (`idle_until`); each is the latest such tick.
 //! - `run_quiet` makes plain steps of a quiet partition in a row and the quiet calls between them, each with its
@@ -28,11 +27,10 @@ mod quiet_stops;
 mod replies;
 mod stretches;
 mod traced;
-mod turns;
 
 pub use idle_stops::idle_until;
 pub use instructions::instruct;
 pub use kinds::{call_cost, step_cost};
+pub use ptk_gate_moves::{NextStep, a0_after, next_step, registers, runner};
 pub use quiet_stops::{Quiet, prepared_until, quiet_until};
 pub use stretches::{Reached, run_quiet};
-pub use turns::{NextStep, a0_after, next_step, registers, runner};

@@ -13,9 +13,9 @@ ghost use Rattle.ptk_gate_steps.specs.QuietCalls.{is_quiet_with};
 ghost use Rattle.ptk_gate_steps.specs.NextSteps.{next_kind_of};
 ghost use Rattle.ptk_gate_steps.specs.Replies.{IsMade};
 
-use crate::kinds::{call_cost, word_fetched};
+use crate::kinds::call_cost;
 use crate::quiet_calls::{is_quiet, put_reply};
-use ptk_gate_moves::{Pools, ThreadField};
+use ptk_gate_moves::{Pools, ThreadField, word_fetched};
 use ptk_words::{A0, A7, Call, Cpu, ECALL, Policy, ThreadNo, cost};
 
 /// What a thread's next step is, as far as a stretch asks.

@@ -1,13 +1,13 @@
 //! What a decision reads of the running thread. Its next step is read where the thread lies: nothing of it is copied.
 
 ghost use Rattle.std.specs.Prelude.{◌≡◌};
-ghost use Rattle.ptk_words_model.specs.Decision.{runner_of};
+ghost use Rattle.ptk_words_model.specs.Decision.{runner_of, word_fetched};
 ghost use Rattle.ptk_words_model.specs.Priority.{thread_at};
-ghost use Rattle.ptk_gate_steps.specs.NextSteps.{a0_kept, cpu_of, next_step_in, next_step_of};
+ghost use Rattle.ptk_gate_moves.specs.NextSteps.{a0_kept, cpu_of, next_step_in, next_step_of};
 
-use crate::kinds::word_fetched;
-use ptk_gate_moves::{Look, is_to_unwind};
-use ptk_words::{A0, A7, Cpu, ECALL, RETURN_GATE, Thread, ThreadNo};
+use crate::cancellation::is_to_unwind;
+use ptk_gate_pools::Look;
+use ptk_words::{A0, A7, Cpu, ECALL, RETURN_GATE, Thread, ThreadNo, read_word};
 use ptk_words_model::{Runner, StepKind};
 
 /// The next step of the running thread.
@@ -68,6 +68,18 @@ fn step_of(look: &Look<'_>, t: ThreadNo, thread: &Thread) -> NextStep
         pc,
         word,
         a0,
+    }
+}
+
+/// The word at the pc, 0 where none can be fetched.
+pub fn word_fetched(memory: &[u8], pc: u32) -> u32
+    ensures { result ≡ word_fetched memory.now pc }
+{
+    let at = pc as usize;
+    if pc % 4 == 0 && at + 4 <= memory.len() {
+        read_word(memory, at)
+    } else {
+        0
     }
 }
 
