@@ -1,12 +1,11 @@
 //! What is shown of a partition's threads and mutexes beside the slot table.
 
-ghost use Rattle.std.specs.Prelude.{◌≡◌, ◌<◌, length, option_map, slice_get, unwrap_or};
-ghost use Rattle.ptk_words.specs.Pools.{numbered};
+ghost use Rattle.std.specs.Prelude.{◌≡◌, ◌<◌, length, option_map, slice_get};
 ghost use Rattle.ptk_words.specs.declared.threads.Thread.{Thread};
 ghost use Rattle.ptk_words_model.specs.State.{Mutex};
 ghost use Rattle.ptk_words_model.specs.Priority.{effective_priority, thread_at};
 ghost use Rattle.ptk_words_model.specs.Mutex.{mutex_at};
-ghost use Rattle.ptk_words_model.specs.ThreadCreation.{new_cancellation};
+ghost use Rattle.ptk_words_model.specs.CancellationCalls.{cancellation_of};
 ghost use Rattle.ptk_words_model.specs.Withdrawal.{deadlines_of};
 ghost use Rattle.ptk_mutex_priorities.specs.Slots.{state_of};
 ghost use Rattle.ptk_clock.specs.ByThread.{least_deadline};
@@ -52,7 +51,7 @@ impl Tables {
     /// Whether a request to cancel a thread is pending, whatever its state and type (pthread_cancel).
     pub fn is_cancel_pending(&self, p: PartId, t: ThreadNo) -> bool
         requires { p < length self.now.limits }
-        ensures { result ≡ (unwrap_or (numbered (part_at p self.now).cancellations t) new_cancellation).is_pending }
+        ensures { result ≡ (cancellation_of (part_at p self.now) t).is_pending }
     {
         self.pools.look(p).is_cancel_pending(t)
     }
@@ -60,7 +59,7 @@ impl Tables {
     /// Whether a cancellation took a thread out of its wait: its next step begins its unwinding (XSH 2.9.5.2).
     pub fn is_marked(&self, p: PartId, t: ThreadNo) -> bool
         requires { p < length self.now.limits }
-        ensures { result ≡ (unwrap_or (numbered (part_at p self.now).cancellations t) new_cancellation).is_marked }
+        ensures { result ≡ (cancellation_of (part_at p self.now) t).is_marked }
     {
         self.pools.look(p).is_marked(t)
     }

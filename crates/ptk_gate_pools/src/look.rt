@@ -7,7 +7,7 @@ ghost use Rattle.ptk_words_model.specs.Mutex.{mutex_at};
 ghost use Rattle.ptk_words_model.specs.Priority.{thread_at, effective_priority};
 ghost use Rattle.ptk_words_model.specs.Schedule.{first_ready};
 ghost use Rattle.ptk_words_model.specs.Withdrawal.{deadlines_of};
-ghost use Rattle.ptk_words_model.specs.ThreadCreation.{new_cancellation};
+ghost use Rattle.ptk_words_model.specs.CancellationCalls.{cancellation_of};
 ghost use Rattle.ptk_cancel.specs.KeptCancellations.{is_acting};
 ghost use Rattle.ptk_clock.specs.ByThread.{least_deadline};
 ghost use Rattle.ptk_mutex_priorities.specs.Slots.{state_of};
@@ -141,7 +141,7 @@ impl Look<'_> {
     /// Whether a request to cancel the thread is pending, whatever its state and type (pthread_cancel).
     #[tactic(auto, using(crate::proofs::Hands::taken))]
     pub fn is_cancel_pending(&self, t: ThreadNo) -> bool
-        ensures { result ≡ (unwrap_or (numbered self.now.part.cancellations t) new_cancellation).is_pending }
+        ensures { result ≡ (cancellation_of self.now.part t).is_pending }
     {
         let pools = self.pools;
         pools.cancellations.is_pending(self.p, t)
@@ -150,7 +150,7 @@ impl Look<'_> {
     /// Whether a cancellation took the thread out of its wait: its next step begins its unwinding (XSH 2.9.5.2).
     #[tactic(auto, using(crate::proofs::Hands::taken))]
     pub fn is_marked(&self, t: ThreadNo) -> bool
-        ensures { result ≡ (unwrap_or (numbered self.now.part.cancellations t) new_cancellation).is_marked }
+        ensures { result ≡ (cancellation_of self.now.part t).is_marked }
     {
         let pools = self.pools;
         pools.cancellations.is_marked(self.p, t)

@@ -1,9 +1,8 @@
 //! What each thread does, its priorities, and the partition's next decision and last step: what a picture of a run is
 //! made from.
 
-ghost use Rattle.std.specs.Prelude.{◌≡◌, ◌<◌, ◌≤◌, ℕ, None, Some, length, option_map, unwrap_or};
-ghost use Rattle.ptk_words.specs.Pools.{numbered};
-ghost use Rattle.ptk_words_model.specs.ThreadCreation.{new_cancellation};
+ghost use Rattle.std.specs.Prelude.{◌≡◌, ◌<◌, ◌≤◌, ℕ, None, Some, length, option_map};
+ghost use Rattle.ptk_words_model.specs.CancellationCalls.{cancellation_of};
 ghost use Rattle.ptk_mutex_priorities.specs.Slots.{state_of as mutex_state};
 ghost use Rattle.ptk_words.specs.declared.threads.Thread.{Thread};
 ghost use Rattle.ptk_words_windows.specs.Windows.{own_ticks};
@@ -13,7 +12,8 @@ ghost use Rattle.ptk_words_model.specs.Mutex.{mutex_at};
 ghost use Rattle.ptk_words.specs.Faults.{is_active};
 ghost use Rattle.ptk_words_model.specs.Schedule.{is_running};
 ghost use Rattle.ptk_system.specs.Activities.{activity_in, activity_of_thread, activity_of_wait, mutex_of_activity, owner_thread};
-ghost use Rattle.ptk_system.specs.World.{at_tick, but_next, state_of};
+ghost use Rattle.ptk_system.specs.Going.{AllStandStill, IsLatest, IsLatestOfAll, StandsStill};
+ghost use Rattle.ptk_system.specs.World.{state_of};
 
 use crate::system::System;
 use ptk_mutex_priorities::MutexState;
@@ -140,7 +140,7 @@ impl<'a> System<'a> {
     /// Whether a request to cancel a thread is pending, whatever its state and type (pthread_cancel).
     pub fn is_cancel_pending(&self, p: PartId, t: ThreadNo) -> bool
         requires { p < length self.now.config.sections }
-        ensures { result ≡ (unwrap_or (numbered (state_of self.now p).part.cancellations t) new_cancellation).is_pending }
+        ensures { result ≡ (cancellation_of (state_of self.now p).part t).is_pending }
     {
         self.kept().tables().is_cancel_pending(p, t)
     }
@@ -148,7 +148,7 @@ impl<'a> System<'a> {
     /// Whether a cancellation took a thread out of its wait: its next step begins its unwinding (XSH 2.9.5.2).
     pub fn is_marked(&self, p: PartId, t: ThreadNo) -> bool
         requires { p < length self.now.config.sections }
-        ensures { result ≡ (unwrap_or (numbered (state_of self.now p).part.cancellations t) new_cancellation).is_marked }
+        ensures { result ≡ (cancellation_of (state_of self.now p).part t).is_marked }
     {
         self.kept().tables().is_marked(p, t)
     }
@@ -176,10 +176,8 @@ impl<'a> System<'a> {
     pub fn stays_until(&self, p: PartId, stop: Tick) -> Tick
         requires { p < length self.now.config.sections }
         ensures within { result ≤ stop }
-        ensures stays { (k : ℕ) → self.now.tick ≤ k → k ≤ result →
-            but_next (state_of (at_tick k self.now) p) ≡ but_next (state_of self.now p) }
-        ensures latest { stop ≤ LAST_TICK → (k : ℕ) → k ≤ stop →
-            ((j : ℕ) → self.now.tick ≤ j → j ≤ k → but_next (state_of (at_tick j self.now) p) ≡ but_next (state_of self.now p)) → k ≤ result }
+        ensures stays { StandsStill self.now p result }
+        ensures latest { stop ≤ LAST_TICK → IsLatest self.now p stop result }
     {
         self.states_are_alone();
         match self.next(p) {
@@ -201,11 +199,8 @@ impl<'a> System<'a> {
     /// decisions.
     pub fn all_stay_until(&self, stop: Tick) -> Tick
         ensures within { result ≤ stop }
-        ensures stay { (p : ℕ) → p < length self.now.config.sections → (k : ℕ) → self.now.tick ≤ k → k ≤ result →
-            but_next (state_of (at_tick k self.now) p) ≡ but_next (state_of self.now p) }
-        ensures latest { stop ≤ LAST_TICK → (k : ℕ) → k ≤ stop →
-            ((p : ℕ) → p < length self.now.config.sections → (j : ℕ) → self.now.tick ≤ j → j ≤ k →
-            but_next (state_of (at_tick j self.now) p) ≡ but_next (state_of self.now p)) → k ≤ result }
+        ensures stay { AllStandStill self.now result }
+        ensures latest { stop ≤ LAST_TICK → IsLatestOfAll self.now stop result }
     {
         let mut until = stop;
         for i in 0..self.parts() {
