@@ -113,8 +113,8 @@ abbrev pub with_steps : ℕ → ℕ → Counts → Counts
 with_steps steps place c = record c { steps = slice_set c.steps place (slice_index c.steps place + (steps - c.made)); made = steps }
 
 -- with the ticks that the last decision takes, up to a tick (own)
-abbrev pub gone_on : OwnTicks → Tick → Counts → Counts
-gone_on ticks now c = passed ticks (going_until now c) Used c
+abbrev pub with_decided : OwnTicks → Tick → Counts → Counts
+with_decided ticks now c = passed ticks (going_until now c) Used c
 
 -- of which this many were lost so far, with those ahead (own)
 abbrev pub with_lost : Ticks → Counts → Counts
@@ -123,7 +123,7 @@ with_lost lost c = record c { ahead = lost - c.lost }
 -- up to a tick at which the partition shows this: the ticks that its last decision takes, then those since its next one, and the steps since (own)
 abbrev pub counts_on : OwnTicks → Tick → Seen → Counts → Counts
 counts_on ticks now seen c =
-    let gone : Counts = with_lost seen.lost (gone_on ticks now c) in
+    let gone : Counts = with_lost seen.lost (with_decided ticks now c) in
     let counts : Counts = with_steps seen.steps seen.place (passed ticks now (share_of seen.steps gone) gone) in
     record counts { next = seen.next; is_halted = seen.is_halted }
 

@@ -4,7 +4,7 @@ ghost use Rattle.std.specs.Prelude.{◌≡◌, ◌+◌, ◌-◌, ◌<◌, ◌≤
 ghost use Rattle.ptk_words.specs.declared.TheConstants.{LAST_TICK, THREAD_LIMIT};
 ghost use Rattle.ptk_words_windows.specs.Windows.{OwnTicks, own_ticks};
 ghost use Rattle.ptk_statistics_figures.specs.Own.{IsOwnWindow, own_below};
-ghost use Rattle.ptk_statistics_figures.specs.Counts.{Adds, counted_ticks, counts_of, counts_on, going_until, gone_on, lost_in, no_counts, passed, reached, share_of, steps_by_thread, steps_in, with_own, with_share, with_steps};
+ghost use Rattle.ptk_statistics_figures.specs.Counts.{Adds, counted_ticks, counts_of, counts_on, going_until, with_decided, lost_in, no_counts, passed, reached, share_of, steps_by_thread, steps_in, with_own, with_share, with_steps};
 
 use crate::own::{OwnWindow, own_between};
 use ptk_window::{Near, WindowPlan};
@@ -117,7 +117,7 @@ impl Counted {
         ensures within { self.new.tick ≤ now }
         ensures ticks { counted_ticks self.new ≡ own_below (own_ticks plan.now p) self.new.tick }
         ensures lost { self.new.lost + self.new.ahead ≡ self.old.lost + self.old.ahead }
-        ensures counts { counts_of self.new ≡ gone_on (own_ticks plan.now p) now (counts_of self.old) }
+        ensures counts { counts_of self.new ≡ with_decided (own_ticks plan.now p) now (counts_of self.old) }
     {
         let going = self.going_until(now);
         if going <= self.tick {

@@ -26,7 +26,7 @@ use Rattle.ptk_statistics_run.specs.declared.part.PartStatistics.{PartStatistics
 use Rattle.ptk_statistics_run.specs.Calls.{AreStepsSeen, states_of}
 use Rattle.ptk_statistics_run.specs.Parts.{IsBehindRows, IsDecided, IsExpected, IsExpectedIfDue, IsFinished, is_due_at, is_due_in}
 use Rattle.ptk_statistics_run.specs.Stretches.{AreDecided, AreFirst, AreGathered, IsFirstOf, IsRow, at_first, gone_on}
-use Rattle.ptk_statistics_run.specs.Sums.{first_counts, shown_in}
+use Rattle.ptk_statistics_run.specs.Sums.{first_counts, seen_in}
 use Rattle.ptk_statistics_run.specs.Uses.{FiguresCountTicks}
 use Rattle.ptk_statistics_run.proofs.Calls.{ahead_within, alone_gathered, seen_gathered, seen_within, undue_stays}
 use Rattle.ptk_statistics_run.proofs.LastSteps.{IsOneTick, no_step, one_step, one_tick}
@@ -192,25 +192,25 @@ followed_at ticks states n counts c is tick at steps =
     }
 
 -- counted up to the tick
-followed_on : (ticks : OwnTicks) (states : ℕ → State) → IsPartRun ticks states → (n : ℕ) (c after : Counted) → IsFollowed ticks states n c → counts_of after ≡ counts_on ticks n (shown_in (states n)) (counts_of c) → IsFollowed ticks states n after
+followed_on : (ticks : OwnTicks) (states : ℕ → State) → IsPartRun ticks states → (n : ℕ) (c after : Counted) → IsFollowed ticks states n c → counts_of after ≡ counts_on ticks n (seen_in (states n)) (counts_of c) → IsFollowed ticks states n after
 followed_on ticks states run n c after is on =
     let steady : IsSteady states (reached c) n = steady_of states run.goes (reached c) n is.as_is in
-    followed_at ticks states n (counts_on ticks n (shown_in (states n)) (counts_of c)) after on refl
+    followed_at ticks states n (counts_on ticks n (seen_in (states n)) (counts_of c)) after on refl
     (over ticks states run.windows run.aheads run.spends run.goes (reached c) n is.before steady (counts_of c) is.at)
     (steps_over ticks states run.goes (reached c) n is.before steady (counts_of c) is.at.made is.steps)
 
 followed_up : (ticks : OwnTicks) (states : ℕ → State) → IsPartRun ticks states → (n : ℕ) (c after : Counted) → IsFollowed ticks states n c
-    → (after ≡ c) ⊎ (counts_of after ≡ counts_on ticks n (shown_in (states n)) (counts_of c)) → IsFollowed ticks states n after
+    → (after ≡ c) ⊎ (counts_of after ≡ counts_on ticks n (seen_in (states n)) (counts_of c)) → IsFollowed ticks states n after
 followed_up ticks states run n c after is (inl same) = subst (IsFollowed ticks states n) (sym same) is
 followed_up ticks states run n c after is (inr on) = followed_on ticks states run n c after is on
 
 -- over a decision
 followed_decision : (ticks : OwnTicks) (states : ℕ → State) → IsPartRun ticks states → (n : ℕ) (c after : Counted) → IsFollowed ticks states n c → reached c ≡ n → is_due_in n (states n) ≡ true
-    → counts_of after ≡ counts_on ticks (suc n) (shown_in (states (suc n))) (counts_of c) → IsFollowed ticks states (suc n) after
+    → counts_of after ≡ counts_on ticks (suc n) (seen_in (states (suc n))) (counts_of c) → IsFollowed ticks states (suc n) after
 followed_decision ticks states run n c after is tick due on =
     let at : IsAt ticks states n (counts_of c) = subst (λ (k : ℕ). IsAt ticks states k (counts_of c)) tick is.at in
     let steps : AreStepsAt states n (counts_of c) = subst (λ (k : ℕ). AreStepsAt states k (counts_of c)) tick is.steps in
-    followed_at ticks states (suc n) (counts_on ticks (suc n) (shown_in (states (suc n))) (counts_of c)) after on refl
+    followed_at ticks states (suc n) (counts_on ticks (suc n) (seen_in (states (suc n))) (counts_of c)) after on refl
     (over_decision ticks states run.windows run.aheads run.spends run.goes n due (counts_of c) at)
     (steps_over_one ticks states n (run.goes n) (counts_of c) at.made steps)
 
@@ -255,11 +255,11 @@ followed_decided is_same world p to true before ahead after plan lt alone due ex
     let here : state_of world p ≡ states_of world p world.tick = ap (λ (w : World). state_of w p) alone in
     let coming : IsExpected world p before.observed before.counted ahead = expects in
     let decided : IsDecided is_same (at_tick (world.tick + 1) world) p world.tick to ahead after = made in
-    let up : (ahead.counted ≡ before.counted) ⊎ (counts_of ahead.counted ≡ counts_on ticks world.tick (shown_in (states_of world p world.tick)) (counts_of before.counted)) =
-    subst (λ (s : State). (ahead.counted ≡ before.counted) ⊎ (counts_of ahead.counted ≡ counts_on ticks world.tick (shown_in s) (counts_of before.counted))) here coming.counts in
+    let up : (ahead.counted ≡ before.counted) ⊎ (counts_of ahead.counted ≡ counts_on ticks world.tick (seen_in (states_of world p world.tick)) (counts_of before.counted)) =
+    subst (λ (s : State). (ahead.counted ≡ before.counted) ⊎ (counts_of ahead.counted ≡ counts_on ticks world.tick (seen_in s) (counts_of before.counted))) here coming.counts in
     followed_decision ticks (states_of world p) run world.tick ahead.counted after.counted (followed_up ticks (states_of world p) run world.tick before.counted ahead.counted is up) coming.reached
     (ap (is_due_in world.tick) (sym here) ∙ due)
-    (subst (λ (n : ℕ). counts_of after.counted ≡ counts_on ticks n (shown_in (states_of world p n)) (counts_of ahead.counted)) (add-one world.tick) decided.counts)
+    (subst (λ (n : ℕ). counts_of after.counted ≡ counts_on ticks n (seen_in (states_of world p n)) (counts_of ahead.counted)) (add-one world.tick) decided.counts)
 followed_decided is_same world p to false before ahead after plan lt alone due expects made is =
     let ticks : OwnTicks = own_ticks world.config.plan p in
     let same : ahead ≡ record before { is_due = is_due_at world p } = expects in

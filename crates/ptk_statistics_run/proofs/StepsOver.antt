@@ -9,7 +9,7 @@ use Rattle.ptk_words_model.specs.State.{State}
 use Rattle.ptk_statistics_figures.specs.Counts.{Counts, counts_on}
 use Rattle.ptk_statistics_run.specs.Calls.{step_made}
 use Rattle.ptk_statistics_run.specs.Observations.{place_of_last}
-use Rattle.ptk_statistics_run.specs.Sums.{shown_in}
+use Rattle.ptk_statistics_run.specs.Sums.{seen_in}
 use Rattle.ptk_statistics_run.specs.Uses.{step_count, steps_below}
 use Rattle.ptk_statistics_run.proofs.LastSteps.{IsOneTick, no_fewer_steps, no_step, none_made, one_step, some_made, some_same}
 use Rattle.ptk_statistics_run.proofs.UsesOver.{IsSteady}
@@ -131,7 +131,7 @@ none_left : (n m : ℕ) (P : Type 0) → (n ≡ m) ⊎ P → (n - m ≡ 0) ⊎ P
 none_left n m P (inl e) = inl (omega (arith, e))
 none_left n m P (inr is) = inr is
 
-steps_by : (ticks : OwnTicks) (states : ℕ → State) (a b r : ℕ) (c : Counts) → c.made ≡ (states a).account.steps → AreStepsAt states a c → IsRunBy states a b r → AreStepsAt states b (counts_on ticks b (shown_in (states b)) c)
+steps_by : (ticks : OwnTicks) (states : ℕ → State) (a b r : ℕ) (c : Counts) → c.made ≡ (states a).account.steps → AreStepsAt states a c → IsRunBy states a b r → AreStepsAt states b (counts_on ticks b (seen_in (states b)) c)
 steps_by ticks states a b r c made are run = record {
   steps = λ i low.
       ap (λ (k : ℕ). get_or (set c.steps (place_of_last (states b).part.last) (get_or c.steps (place_of_last (states b).part.last) 0 + ((states b).account.steps - k))) i 0) made
@@ -144,12 +144,12 @@ steps_by ticks states a b r c made are run = record {
 
 -- over ticks at which the partition goes on as it is
 pub steps_over : (ticks : OwnTicks) (states : ℕ → State) → ((n : ℕ) → IsOneTick n (states n) (states (suc n))) → (a b : ℕ) → a ≤ b → IsSteady states a b → (c : Counts) → c.made ≡ (states a).account.steps → AreStepsAt states a c
-    → AreStepsAt states b (counts_on ticks b (shown_in (states b)) c)
+    → AreStepsAt states b (counts_on ticks b (seen_in (states b)) c)
 steps_over ticks states goes a b le steady c made are = steps_by ticks states a b steady.runner c made are (run_to states goes a b steady.runner le steady.steps)
 
 -- over one tick
 pub steps_over_one : (ticks : OwnTicks) (states : ℕ → State) (n : ℕ) → IsOneTick n (states n) (states (suc n)) → (c : Counts) → c.made ≡ (states n).account.steps → AreStepsAt states n c
-    → AreStepsAt states (suc n) (counts_on ticks (suc n) (shown_in (states (suc n))) c)
+    → AreStepsAt states (suc n) (counts_on ticks (suc n) (seen_in (states (suc n))) c)
 steps_over_one ticks states n (no_step same last) c made are =
     steps_by ticks states n (suc n) 0 c made are
     (run_one states n n 0 (omega arith) (λ entry more e. absurd (omega (arith, more, same))) (no_step same last) (run_here states n n 0 refl))

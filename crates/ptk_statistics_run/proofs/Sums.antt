@@ -11,7 +11,7 @@ use Rattle.ptk_statistics_figures.specs.declared.counted.Seen.{Seen}
 use Rattle.ptk_statistics_figures.specs.Own.{own_below}
 use Rattle.ptk_statistics_figures.specs.Counts.{Adds, lost_in, reached, steps_in}
 use Rattle.ptk_statistics_run.specs.Observations.{place_of_last}
-use Rattle.ptk_statistics_run.specs.Sums.{AddsUp, Agrees, shown_in}
+use Rattle.ptk_statistics_run.specs.Sums.{AddsUp, Agrees, seen_in}
 use Rattle.ptk_statistics_run.proofs.Growing.{Grows, grown}
 
 -- a system that stands at its own tick
@@ -70,7 +70,7 @@ agrees world p c alone at is =
 
 -- what is read of a partition, one thing after the other, is what the system shows of it
 pub shown_by : (s : State) (steps lost place : ℕ) (next : Option ℕ) (halted : Bool) → steps ≡ s.account.steps → lost ≡ s.account.lost → place ≡ place_of_last s.part.last → next ≡ s.account.next
-    → halted ≡ is_halted (status_in s.part) → ◌≡◌ {A = Seen} (record { steps = steps; lost = lost; place = place; next = next; is_halted = halted }) (shown_in s)
+    → halted ≡ is_halted (status_in s.part) → ◌≡◌ {A = Seen} (record { steps = steps; lost = lost; place = place; next = next; is_halted = halted }) (seen_in s)
 shown_by s steps lost place next halted made gone of later halts =
     ap {B = Seen} (λ (n : ℕ). record { steps = n; lost = lost; place = place; next = next; is_halted = halted }) made
     ∙ (ap {B = Seen} (λ (n : ℕ). record { steps = s.account.steps; lost = n; place = place; next = next; is_halted = halted }) gone

@@ -8,13 +8,13 @@ use Rattle.ptk_words_windows.specs.Windows.{OwnTicks}
 use Rattle.ptk_words_model.specs.State.{State}
 use Rattle.ptk_words_model.specs.Decision.{runner_of}
 use Rattle.ptk_main_runs.specs.Told.{is_halted, status_in}
-use Rattle.ptk_statistics_figures.specs.Counts.{Counts, counts_on, going_until, gone_on, next_until, with_lost}
+use Rattle.ptk_statistics_figures.specs.Counts.{Counts, counts_on, going_until, with_decided, next_until, with_lost}
 use Rattle.ptk_statistics_figures.specs.Own.{own_below}
 use Rattle.ptk_statistics_figures.proofs.OwnTicks.{own_all, own_none}
 use Rattle.ptk_statistics_figures.proofs.Shares.{share_halted, share_idle, share_used}
 use Rattle.ptk_statistics_run.specs.Parts.{is_due_in}
-use Rattle.ptk_statistics_run.specs.Sums.{shown_in}
-use Rattle.ptk_statistics_run.specs.Uses.{AfterHalt, LeftIdle, LostAtEnd, TakenByStep, Use, is_behind_halt, is_idle, is_lost, is_taken, last_use, use_count, use_decided, uses_below}
+use Rattle.ptk_statistics_run.specs.Sums.{seen_in}
+use Rattle.ptk_statistics_run.specs.Uses.{AfterHalt, LeftIdle, LostAtEnd, TakenByStep, Use, is_behind_halt, is_idle, is_lost, is_by_step, last_use, use_count, use_decided, uses_below}
 use Rattle.ptk_statistics_run.proofs.LastSteps.{IsOneTick, no_fewer_steps}
 use Rattle.ptk_statistics_run.proofs.Turns.{IsSpent, due_next, idle_spent, is_going, next_due, none_spent, rest_spent, step_spent}
 use Rattle.ptk_statistics_run.proofs.Uses.{AreWindows, IsAhead, IsNext, IsUse, ahead_of, from_next, halted_none, idle_use, lost_use, past_none, step_use, use_due, use_halted, use_on}
@@ -94,7 +94,7 @@ step_of states a (suc n) le more = by (λ within less. step_of states a n within
 
 -- a count agrees with a partition at a tick: it has counted the own ticks below by their use, the lost ticks that lie ahead, and what the partition shows then
 pub record IsAt (ticks : OwnTicks) (states : ℕ → State) (n : ℕ) (c : Counts) : Type 0 where
-  pub used : c.used ≡ uses_below ticks states is_taken n
+  pub used : c.used ≡ uses_below ticks states is_by_step n
   pub idle : c.idle ≡ uses_below ticks states is_idle n
   pub lost : c.lost ≡ uses_below ticks states is_lost n
   pub halted : c.halted ≡ uses_below ticks states is_behind_halt n
@@ -106,7 +106,7 @@ pub record IsAt (ticks : OwnTicks) (states : ℕ → State) (n : ℕ) (c : Count
 
 -- with the ticks that its last decision takes
 record IsGone (ticks : OwnTicks) (states : ℕ → State) (a g b : ℕ) (c : Counts) : Type 0 where
-  used : c.used ≡ uses_below ticks states is_taken g
+  used : c.used ≡ uses_below ticks states is_by_step g
   idle : c.idle ≡ uses_below ticks states is_idle g
   lost : c.lost ≡ uses_below ticks states is_lost g
   halted : c.halted ≡ uses_below ticks states is_behind_halt g
@@ -116,7 +116,7 @@ record IsGone (ticks : OwnTicks) (states : ℕ → State) (a g b : ℕ) (c : Cou
 
 -- the count at an end, with the lost ticks that lie ahead there, before the ticks since the next decision are counted
 abbrev behind_next : OwnTicks → ℕ → State → Counts → Counts
-behind_next ticks b end c = with_lost end.account.lost (gone_on ticks b c)
+behind_next ticks b end c = with_lost end.account.lost (with_decided ticks b c)
 
 -- the own ticks since the next decision
 abbrev own_since : OwnTicks → ℕ → State → Counts → ℕ
@@ -288,9 +288,9 @@ module _ (ticks : OwnTicks) (states : ℕ → State) (windows : AreWindows ticks
       own_gone = ap (λ (k : ℕ). own_below ticks k - own_below ticks c.tick) going ∙ ap (λ (k : ℕ). own_below ticks g - own_below ticks k) at.tick
 
       gone_by : (fate : Use) → last_use states a ≡ fate → IsUse fate (aheads a).until a true → (states a).account.lost ≡ uses_below ticks states is_lost a + ahead_of fate (aheads a).until a
-          → IsGone ticks states a g b (gone_on ticks b c)
+          → IsGone ticks states a g b (with_decided ticks b c)
       gone_by TakenByStep last so lost = record {
-        used = omega (arith, at.used, own_gone, uniform_first is_taken TakenByStep true refl last, own_first a g short active from, at.ahead, at.lost, lost);
+        used = omega (arith, at.used, own_gone, uniform_first is_by_step TakenByStep true refl last, own_first a g short active from, at.ahead, at.lost, lost);
         idle = omega (arith, at.idle, uniform_first is_idle TakenByStep false refl last);
         lost = omega (arith, at.lost, own_gone, uniform_first is_lost TakenByStep false refl last, at.ahead, lost);
         halted = omega (arith, at.halted, uniform_first is_behind_halt TakenByStep false refl last);
@@ -301,7 +301,7 @@ module _ (ticks : OwnTicks) (states : ℕ → State) (windows : AreWindows ticks
       gone_by LeftIdle last so lost =
           let none : own_below ticks g ≡ own_below ticks a = omega (arith, own_first a g short active from, so) in
           record {
-            used = omega (arith, at.used, own_gone, uniform_first is_taken LeftIdle false refl last, none);
+            used = omega (arith, at.used, own_gone, uniform_first is_by_step LeftIdle false refl last, none);
             idle = omega (arith, at.idle, uniform_first is_idle LeftIdle true refl last, none);
             lost = omega (arith, at.lost, own_gone, uniform_first is_lost LeftIdle false refl last, none);
             halted = omega (arith, at.halted, uniform_first is_behind_halt LeftIdle false refl last);
@@ -310,7 +310,7 @@ module _ (ticks : OwnTicks) (states : ℕ → State) (windows : AreWindows ticks
             tick = going;
           }
       gone_by LostAtEnd last so lost = record {
-        used = omega (arith, at.used, own_gone, uniform_first is_taken LostAtEnd false refl last, own_first a g short active from, at.ahead, at.lost, lost);
+        used = omega (arith, at.used, own_gone, uniform_first is_by_step LostAtEnd false refl last, own_first a g short active from, at.ahead, at.lost, lost);
         idle = omega (arith, at.idle, uniform_first is_idle LostAtEnd false refl last);
         lost = omega (arith, at.lost, own_gone, uniform_first is_lost LostAtEnd true refl last, own_first a g short active from, at.ahead, lost);
         halted = omega (arith, at.halted, uniform_first is_behind_halt LostAtEnd false refl last);
@@ -327,7 +327,7 @@ module _ (ticks : OwnTicks) (states : ℕ → State) (windows : AreWindows ticks
           by (inr late) = let same : b ≡ g = omega (arith, late, to) in inr (ap (own_below ticks) same)
       gone_by AfterHalt last so lost = absurd (false≢true (sym so))
 
-      gone : IsGone ticks states a g b (gone_on ticks b c)
+      gone : IsGone ticks states a g b (with_decided ticks b c)
       gone = gone_by (aheads a).fate (aheads a).used (subst (IsUse (aheads a).fate (aheads a).until a) active (aheads a).so) (aheads a).lost
 
       since : own_since ticks b (states b) c ≡ own_below ticks b - own_below ticks g
@@ -336,19 +336,19 @@ module _ (ticks : OwnTicks) (states : ℕ → State) (windows : AreWindows ticks
       none_lost : min (own_since ticks b (states b) c) (behind_next ticks b (states b) c).ahead ≡ 0
       none_lost = by gone.rest
         where
-          by : ((gone_on ticks b c).ahead ≡ 0) ⊎ (own_below ticks b ≡ own_below ticks g) → min (own_since ticks b (states b) c) (behind_next ticks b (states b) c).ahead ≡ 0
+          by : ((with_decided ticks b c).ahead ≡ 0) ⊎ (own_below ticks b ≡ own_below ticks g) → min (own_since ticks b (states b) c) (behind_next ticks b (states b) c).ahead ≡ 0
           by (inl none) = omega (arith, none, gone.ahead, steady.lost b le (omega arith))
           by (inr same) = omega (arith, since, same)
 
       not_halted : c.is_halted ≡ false
       not_halted = at.is_halted ∙ is_going (states a).part true active
 
-      over_step : (states a).account.steps < (states b).account.steps → IsAt ticks states b (counts_on ticks b (shown_in (states b)) c)
+      over_step : (states a).account.steps < (states b).account.steps → IsAt ticks states b (counts_on ticks b (seen_in (states b)) c)
       over_step more =
           let later : (k : ℕ) → g ≤ k → k < b → last_use states (suc k) ≡ TakenByStep = use_later TakenByStep (λ k low high is. decided_step more k low high is (spends k)) in
           let share = share_used (states b).account.steps (kept_since ticks b (states b) c) (behind_next ticks b (states b) c) not_halted (omega (arith, at.made, more)) in
           record {
-            used = omega (arith, gone.used, share.0, since, none_lost, uniform_by ticks states is_taken true TakenByStep g b refl to later, own_grows ticks g b to);
+            used = omega (arith, gone.used, share.0, since, none_lost, uniform_by ticks states is_by_step true TakenByStep g b refl to later, own_grows ticks g b to);
             idle = omega (arith, gone.idle, share.1, uniform_by ticks states is_idle false TakenByStep g b refl to later);
             lost = omega (arith, gone.lost, none_lost, uniform_by ticks states is_lost false TakenByStep g b refl to later);
             halted = omega (arith, gone.halted, share.2, uniform_by ticks states is_behind_halt false TakenByStep g b refl to later);
@@ -359,12 +359,12 @@ module _ (ticks : OwnTicks) (states : ℕ → State) (windows : AreWindows ticks
             is_halted = refl;
           }
 
-      over_idle : (states b).account.steps ≤ (states a).account.steps → IsAt ticks states b (counts_on ticks b (shown_in (states b)) c)
+      over_idle : (states b).account.steps ≤ (states a).account.steps → IsAt ticks states b (counts_on ticks b (seen_in (states b)) c)
       over_idle none =
           let later : (k : ℕ) → g ≤ k → k < b → last_use states (suc k) ≡ LeftIdle = use_later LeftIdle (λ k low high is. decided_idle none k low high is (spends k)) in
           let share = share_idle (states b).account.steps (kept_since ticks b (states b) c) (behind_next ticks b (states b) c) not_halted (omega (arith, at.made, none)) in
           record {
-            used = omega (arith, gone.used, share.0, uniform_by ticks states is_taken false LeftIdle g b refl to later);
+            used = omega (arith, gone.used, share.0, uniform_by ticks states is_by_step false LeftIdle g b refl to later);
             idle = omega (arith, gone.idle, share.1, since, none_lost, uniform_by ticks states is_idle true LeftIdle g b refl to later, own_grows ticks g b to);
             lost = omega (arith, gone.lost, none_lost, uniform_by ticks states is_lost false LeftIdle g b refl to later);
             halted = omega (arith, gone.halted, share.2, uniform_by ticks states is_behind_halt false LeftIdle g b refl to later);
@@ -375,15 +375,15 @@ module _ (ticks : OwnTicks) (states : ℕ → State) (windows : AreWindows ticks
             is_halted = refl;
           }
 
-      over_going : IsAt ticks states b (counts_on ticks b (shown_in (states b)) c)
+      over_going : IsAt ticks states b (counts_on ticks b (seen_in (states b)) c)
       over_going = by (cases_lt (states a).account.steps (states b).account.steps)
         where
-          by : ((states a).account.steps < (states b).account.steps) ⊎ ((states b).account.steps ≤ (states a).account.steps) → IsAt ticks states b (counts_on ticks b (shown_in (states b)) c)
+          by : ((states a).account.steps < (states b).account.steps) ⊎ ((states b).account.steps ≤ (states a).account.steps) → IsAt ticks states b (counts_on ticks b (seen_in (states b)) c)
           by (inl more) = over_step more
           by (inr none) = over_idle none
 
   -- of a halted partition
-  over_halted : (a b : ℕ) → a ≤ b → IsSteady states a b → is_active (states a).part.status ≡ false → (c : Counts) → IsAt ticks states a c → IsAt ticks states b (counts_on ticks b (shown_in (states b)) c)
+  over_halted : (a b : ℕ) → a ≤ b → IsSteady states a b → is_active (states a).part.status ≡ false → (c : Counts) → IsAt ticks states a c → IsAt ticks states b (counts_on ticks b (seen_in (states b)) c)
   over_halted a b le steady halted c at =
       let is : c.is_halted ≡ true = at.is_halted ∙ is_going (states a).part false halted in
       let going : going_until b c ≡ c.tick = ap (λ (h : Bool). if h then c.tick else next_until c.tick b c.next) is in
@@ -396,7 +396,7 @@ module _ (ticks : OwnTicks) (states : ℕ → State) (windows : AreWindows ticks
       let share = share_halted (states b).account.steps (kept_since ticks b (states b) c) (behind_next ticks b (states b) c) is in
       let lost : (states b).account.lost ≡ (states a).account.lost = steady.lost b le (omega arith) in
       record {
-        used = omega (arith, at.used, none, here, from, share.0, uniform_by ticks states is_taken false AfterHalt a b refl le later);
+        used = omega (arith, at.used, none, here, from, share.0, uniform_by ticks states is_by_step false AfterHalt a b refl le later);
         idle = omega (arith, at.idle, share.1, uniform_by ticks states is_idle false AfterHalt a b refl le later);
         lost = omega (arith, at.lost, at.ahead, none, lost, uniform_by ticks states is_lost false AfterHalt a b refl le later);
         halted = omega (arith, at.halted, none, here, share.2, lost, at.ahead, uniform_by ticks states is_behind_halt true AfterHalt a b refl le later, own_grows ticks a b le);
@@ -407,7 +407,7 @@ module _ (ticks : OwnTicks) (states : ℕ → State) (windows : AreWindows ticks
         is_halted = refl;
       }
 
-  over_by : (a b : ℕ) → a ≤ b → IsSteady states a b → (active : Bool) → is_active (states a).part.status ≡ active → (c : Counts) → IsAt ticks states a c → IsAt ticks states b (counts_on ticks b (shown_in (states b)) c)
+  over_by : (a b : ℕ) → a ≤ b → IsSteady states a b → (active : Bool) → is_active (states a).part.status ≡ active → (c : Counts) → IsAt ticks states a c → IsAt ticks states b (counts_on ticks b (seen_in (states b)) c)
   over_by a b le steady false halted c at = over_halted a b le steady halted c at
   over_by a b le steady true active c at =
       let next : Option ℕ = (states a).account.next in
@@ -415,7 +415,7 @@ module _ (ticks : OwnTicks) (states : ℕ → State) (windows : AreWindows ticks
       (going_is a b next c (at.is_halted ∙ is_going (states a).part true active) at.tick at.next)
 
   -- over ticks at which the partition goes on as it is
-  pub over : (a b : ℕ) → a ≤ b → IsSteady states a b → (c : Counts) → IsAt ticks states a c → IsAt ticks states b (counts_on ticks b (shown_in (states b)) c)
+  pub over : (a b : ℕ) → a ≤ b → IsSteady states a b → (c : Counts) → IsAt ticks states a c → IsAt ticks states b (counts_on ticks b (seen_in (states b)) c)
   over a b le steady c at = over_by a b le steady (is_active (states a).part.status) refl c at
 
   -- ---- over one decision
@@ -450,14 +450,14 @@ module _ (ticks : OwnTicks) (states : ℕ → State) (windows : AreWindows ticks
     own_more end own = let all : own_below ticks (n + 1) ≡ own_below ticks n + 1 = own_all ticks n 1 end (λ k from lt. (let same : k ≡ n = omega (arith, from, lt) in ap ticks.end_at same ∙ own)) in
         sym (ap (own_below ticks) (add-one n)) ∙ all
 
-    decided_by : IsSpent ticks n (states n) (states (suc n)) → IsAt ticks states (suc n) (counts_on ticks (suc n) (shown_in (states (suc n))) c)
+    decided_by : IsSpent ticks n (states n) (states (suc n)) → IsAt ticks states (suc n) (counts_on ticks (suc n) (seen_in (states (suc n))) c)
     decided_by (none_spent same (inl never)) = absurd ((due_first n due).own never)
     decided_by (none_spent same (inr never)) = absurd (false≢true (sym never ∙ due))
     decided_by (idle_spent end own here steps lost next runner) =
         let later : (k : ℕ) → n ≤ k → k < suc n → last_use states (suc k) ≡ LeftIdle = here_only LeftIdle (use_here LeftIdle (idle_use (states n) (states (suc n)) steps lost)) in
         let share = share_idle (states (suc n)).account.steps (kept_since ticks (suc n) (states (suc n)) c) (behind_next ticks (suc n) (states (suc n)) c) one_not_halted (omega (arith, at.made, steps)) in
         record {
-          used = omega (arith, at.used, none_ahead, own_here, share.0, uniform_by ticks states is_taken false LeftIdle n (suc n) refl (omega arith) later);
+          used = omega (arith, at.used, none_ahead, own_here, share.0, uniform_by ticks states is_by_step false LeftIdle n (suc n) refl (omega arith) later);
           idle = omega (arith, at.idle, none_ahead, own_here, share.1, one_own end own, own_more end own, lost, at.ahead, uniform_by ticks states is_idle true LeftIdle n (suc n) refl (omega arith) later);
           lost = omega (arith, at.lost, none_ahead, own_here, lost, at.ahead, uniform_by ticks states is_lost false LeftIdle n (suc n) refl (omega arith) later);
           halted = omega (arith, at.halted, share.2, uniform_by ticks states is_behind_halt false LeftIdle n (suc n) refl (omega arith) later);
@@ -472,7 +472,7 @@ module _ (ticks : OwnTicks) (states : ℕ → State) (windows : AreWindows ticks
         let later : (k : ℕ) → n ≤ k → k < suc n → last_use states (suc k) ≡ LostAtEnd = here_only LostAtEnd (use_here LostAtEnd (lost_use (states n) (states (suc n)) steps (omega (arith, lost, on)))) in
         let share = share_idle (states (suc n)).account.steps (kept_since ticks (suc n) (states (suc n)) c) (behind_next ticks (suc n) (states (suc n)) c) one_not_halted (omega (arith, at.made, steps)) in
         record {
-          used = omega (arith, at.used, none_ahead, own_here, share.0, uniform_by ticks states is_taken false LostAtEnd n (suc n) refl (omega arith) later);
+          used = omega (arith, at.used, none_ahead, own_here, share.0, uniform_by ticks states is_by_step false LostAtEnd n (suc n) refl (omega arith) later);
           idle = omega (arith, at.idle, none_ahead, own_here, share.1, one_own end own, lost, on, at.ahead, uniform_by ticks states is_idle false LostAtEnd n (suc n) refl (omega arith) later);
           lost = omega (arith, at.lost, none_ahead, own_here, one_own end own, own_more end own, lost, on, at.ahead, uniform_by ticks states is_lost true LostAtEnd n (suc n) refl (omega arith) later);
           halted = omega (arith, at.halted, share.2, uniform_by ticks states is_behind_halt false LostAtEnd n (suc n) refl (omega arith) later);
@@ -486,7 +486,7 @@ module _ (ticks : OwnTicks) (states : ℕ → State) (windows : AreWindows ticks
         let later : (k : ℕ) → n ≤ k → k < suc n → last_use states (suc k) ≡ TakenByStep = here_only TakenByStep (use_here TakenByStep (step_use (states n) (states (suc n)) (omega (arith, steps)))) in
         let share = share_used (states (suc n)).account.steps (kept_since ticks (suc n) (states (suc n)) c) (behind_next ticks (suc n) (states (suc n)) c) one_not_halted (omega (arith, at.made, steps)) in
         record {
-          used = omega (arith, at.used, none_ahead, own_here, share.0, one_own end own, own_more end own, lost, at.ahead, uniform_by ticks states is_taken true TakenByStep n (suc n) refl (omega arith) later);
+          used = omega (arith, at.used, none_ahead, own_here, share.0, one_own end own, own_more end own, lost, at.ahead, uniform_by ticks states is_by_step true TakenByStep n (suc n) refl (omega arith) later);
           idle = omega (arith, at.idle, share.1, uniform_by ticks states is_idle false TakenByStep n (suc n) refl (omega arith) later);
           lost = omega (arith, at.lost, none_ahead, own_here, lost, at.ahead, uniform_by ticks states is_lost false TakenByStep n (suc n) refl (omega arith) later);
           halted = omega (arith, at.halted, share.2, uniform_by ticks states is_behind_halt false TakenByStep n (suc n) refl (omega arith) later);
@@ -497,5 +497,5 @@ module _ (ticks : OwnTicks) (states : ℕ → State) (windows : AreWindows ticks
           is_halted = refl;
         }
 
-    pub over_decision : IsAt ticks states (suc n) (counts_on ticks (suc n) (shown_in (states (suc n))) c)
+    pub over_decision : IsAt ticks states (suc n) (counts_on ticks (suc n) (seen_in (states (suc n))) c)
     over_decision = decided_by (spends n)

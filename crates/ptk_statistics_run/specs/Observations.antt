@@ -2,7 +2,6 @@
 use Rattle.std.specs.Prelude.{ℕ, ◌+◌, ◌-◌, nat_eq, nat_le, ◌==◌, Bool, true, false, ◌&&◌, not, if◌then◌else◌, Option, Some, None, is_some, option_and_then, unwrap_or}
 use Rattle.std.specs.Option.{option_eq}
 use Rattle.ptk_words.specs.Calls.{call_of, cost_of, number_of}
-use Rattle.ptk_words.specs.Pools.{numbered}
 use Rattle.ptk_words.specs.Words.{word_of}
 use Rattle.ptk_words.specs.declared.TheConstants.{A0, A7, ECALL}
 use Rattle.ptk_words.specs.declared.calls.Call.{Call}
@@ -13,7 +12,7 @@ use Rattle.ptk_words.specs.declared.threads.Wait.{Wait}
 use Rattle.ptk_words.specs.declared.threads.Wait.TheVariants.{InputWait, SleepWait, JoinWait, MutexWait, ConditionWait, RelockWait}
 use Rattle.ptk_words_model.specs.State.{Part}
 use Rattle.ptk_words_model.specs.Priority.{thread_at}
-use Rattle.ptk_words_model.specs.ThreadCreation.{new_cancellation}
+use Rattle.ptk_words_model.specs.CancellationCalls.{cancellation_of}
 use Rattle.ptk_words_laws.specs.Others.{can_act_on_others}
 use Rattle.ptk_statistics_figures.specs.declared.doing.Doing.{Doing}
 use Rattle.ptk_statistics_figures.specs.declared.doing.Doing.TheVariants as doings
@@ -111,13 +110,13 @@ comes_by now (Some tick) = nat_le tick now
 -- ---- replies and stack pointers
 
 -- a thread in use that waits for something, also where its partition is halted (XSH 2.8.4)
-abbrev pub is_waiting : Option Thread → Bool
-is_waiting None = false
-is_waiting (Some thread) = is_some thread.wait
+abbrev pub has_wait : Option Thread → Bool
+has_wait None = false
+has_wait (Some thread) = is_some thread.wait
 
 -- the wait of a thread ended with a reply: it waits for nothing any more, and no cancellation took it out of its wait (XSH 2.9.5.2)
 abbrev pub has_reply : ℕ → Part → Bool
-has_reply t s = not (is_waiting (thread_at s.locks t)) && not (unwrap_or (numbered s.cancellations t) new_cancellation).is_marked
+has_reply t s = not (has_wait (thread_at s.locks t)) && not (cancellation_of s t).is_marked
 
 -- the thread has a reply, goes on at this pc, and what is in its a0 is an error (own)
 abbrev pub is_reply_error : ℕ → Part → ℕ → Bool

@@ -3,8 +3,8 @@ use Rattle.std.specs.Prelude.{◌≡◌, ℕ, ◌+◌, ◌<◌, ◌≤◌, nat_l
 use Rattle.ptk_words.specs.Names.{Tick}
 use Rattle.ptk_words.specs.declared.TheConstants.{ECALL}
 use Rattle.ptk_words.specs.declared.sections.Entry.{Entry}
-use Rattle.ptk_main_runs.specs.Going.{GoesOnAsIs, StaysBehindCall}
-use Rattle.ptk_main_runs.specs.World.{World, at_tick, but_next, section_at, state_of}
+use Rattle.ptk_main_runs.specs.Going.{AllStandStill, GoesOnAsIs, IsLatestOfAll, StaysBehindCall}
+use Rattle.ptk_main_runs.specs.World.{World, at_tick, section_at, state_of}
 use Rattle.ptk_statistics_figures.specs.Counts.{counts_of, reached}
 use Rattle.ptk_statistics_figures.specs.Times.{capped_sum}
 use Rattle.ptk_statistics_figures.specs.declared.doing.Doing.{Doing}
@@ -51,9 +51,8 @@ are_due_behind from to world = (world.tick == from) || ends_behind_plain_step to
 pub record IsStillTo (world : World) (to next : Tick) : Type 0 where
   pub from : world.tick ≤ next
   pub within : next ≤ to
-  pub stay : (p : ℕ) → p < length world.config.sections → (k : ℕ) → world.tick ≤ k → k ≤ next → but_next (state_of (at_tick k world) p) ≡ but_next (state_of world p)
-  pub latest : (k : ℕ) → k ≤ to
-      → ((p : ℕ) → p < length world.config.sections → (j : ℕ) → world.tick ≤ j → j ≤ k → but_next (state_of (at_tick j world) p) ≡ but_next (state_of world p)) → k ≤ next
+  pub stay : AllStandStill world next
+  pub latest : IsLatestOfAll world to next
 
 -- the decisions at the system's tick, in a run up to a later tick: each partition's is looked at ahead of it and behind it, and then nothing changes up to this tick (own)
 pub record AreDecided (is_same : Doing → Doing → Bool) (world : World) (to next : Tick) (before after : List PartStatistics) : Type 0 where

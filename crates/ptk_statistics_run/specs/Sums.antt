@@ -26,8 +26,8 @@ pub record Agrees (world : World) (p : ℕ) (c : Counted) : Type 0 where
   pub ticks : counted_ticks c ≡ own_below (own_ticks world.config.plan p) world.tick
 
 -- what a system shows of a partition in this state: its steps, its lost ticks, whose its last step is, its next decision and whether it is halted (own)
-abbrev pub shown_in : State → Seen
-shown_in s =
+abbrev pub seen_in : State → Seen
+seen_in s =
     record {
       steps = s.account.steps;
       lost = s.account.lost;
@@ -42,7 +42,7 @@ first_counts s = no_counts s.account.next (is_halted (status_in s.part))
 
 -- a partition's ticks and steps are counted up to the system's tick, at which it shows this (own)
 abbrev pub IsCountedOn : World → ℕ → Counted → Counted → Type 0
-IsCountedOn world p before after = counts_of after ≡ counts_on (own_ticks world.config.plan p) world.tick (shown_in (state_of world p)) (counts_of before)
+IsCountedOn world p before after = counts_of after ≡ counts_on (own_ticks world.config.plan p) world.tick (seen_in (state_of world p)) (counts_of before)
 
 -- so they are, or they stay as they were (own)
 abbrev pub IsCountedUp : World → ℕ → Counted → Counted → Type 0

@@ -40,11 +40,11 @@ last_use states zero = LeftIdle
 last_use states (suc n) = use_between n (states n) (states (suc n)) (last_use states n)
 
 -- a step took it (own)
-abbrev pub is_taken : Use → Bool
-is_taken TakenByStep = true
-is_taken LeftIdle = false
-is_taken LostAtEnd = false
-is_taken AfterHalt = false
+abbrev pub is_by_step : Use → Bool
+is_by_step TakenByStep = true
+is_by_step LeftIdle = false
+is_by_step LostAtEnd = false
+is_by_step AfterHalt = false
 
 -- nothing was to be done (own)
 abbrev pub is_idle : Use → Bool
@@ -79,7 +79,7 @@ uses_below ticks states is (suc n) = uses_below ticks states is n + use_count is
 
 -- the own ticks below a tick are counted by what became of them, and ahead lie the lost ticks of the state then that are not below it (own)
 pub record AreUsesCounted (ticks : OwnTicks) (states : Tick → State) (n : Tick) (c : Counted) : Type 0 where
-  pub used : c.used ≡ uses_below ticks states is_taken n
+  pub used : c.used ≡ uses_below ticks states is_by_step n
   pub idle : c.idle ≡ uses_below ticks states is_idle n
   pub lost : c.lost ≡ uses_below ticks states is_lost n
   pub halted : c.halted ≡ uses_below ticks states is_behind_halt n

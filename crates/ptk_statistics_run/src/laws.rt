@@ -32,8 +32,8 @@ pub fn undisturbed_is_quiet()
     ensures { (part : Part) → UndisturbedIsQuiet part }
 {}
 
-/// Where nothing comes from outside with a partition's decision each thread does behind it what it did before, unless it
-/// ran before, runs then, the step of the one that runs acts on others, or the partition's status changes.
+/// Where nothing comes from outside with a partition's decision, each thread does behind it what it did before, unless
+/// it ran before, runs then, the step of the one that runs acts on others, or the partition's status changes.
 pub fn others_stay_as_they_are()
     ensures { (part : Part) → OthersStayAsTheyAre part }
 {}

@@ -8,7 +8,7 @@ ghost use Rattle.ptk_words_model.specs.Priority.{thread_at};
 ghost use Rattle.ptk_main_runs.specs.Steps.{step_end};
 ghost use Rattle.ptk_main_runs.specs.World.{state_of};
 ghost use Rattle.ptk_words_laws.specs.Others.{can_act_on_others};
-ghost use Rattle.ptk_statistics_run.specs.Observations.{comes_by, has_halted, has_reply, is_apart, is_late_error, is_owner_call, is_refused, is_reply_error, is_waiting, number_in, owner_call, pc_behind, step_at};
+ghost use Rattle.ptk_statistics_run.specs.Observations.{comes_by, has_halted, has_reply, is_apart, is_late_error, is_owner_call, is_refused, is_reply_error, has_wait, number_in, owner_call, pc_behind, step_at};
 ghost use Rattle.ptk_statistics_run.specs.Gathering.{is_deadline_by, is_disturbed_by, is_input_by, is_preempted_behind, last_behind, window_end};
 
 use crate::doing::{has_halted, is_ready, is_timed};
@@ -93,12 +93,12 @@ fn has_reply(system: &System<'_>, p: PartId, t: ThreadNo) -> bool
     requires { p < length system.now.config.sections }
     ensures { result ≡ has_reply t (state_of system.now p).part }
 {
-    !is_waiting(&thread_of(system, p, t)) && !system.is_marked(p, t)
+    !has_wait(&thread_of(system, p, t)) && !system.is_marked(p, t)
 }
 
 /// Whether a number names a thread that waits for something, also where its partition is halted.
-fn is_waiting(thread: &Option<Thread>) -> bool
-    ensures { result ≡ is_waiting thread.now }
+fn has_wait(thread: &Option<Thread>) -> bool
+    ensures { result ≡ has_wait thread.now }
 {
     match thread {
         Some(thread) => thread.wait.is_some(),
