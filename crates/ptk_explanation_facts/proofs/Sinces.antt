@@ -14,7 +14,7 @@ use Rattle.ptk_main_runs.specs.Activities.{activity_in}
 use Rattle.ptk_main_runs.specs.Going.{DoTheSame, GoesOnAsIs}
 use Rattle.ptk_main_runs.specs.World.{World, at_tick, but_next, state_of}
 use Rattle.ptk_explanation_facts.specs.declared.history.History.{History}
-use Rattle.ptk_explanation_facts.specs.Histories.{AreLooked, AreLooks, AreNew, AreOver, AreSince, IsSince, begins_at, begins_by_step, history_over, is_at, is_running, looked, no_history, stepper, stepper_at}
+use Rattle.ptk_explanation_facts.specs.Histories.{AreLooked, AreLooks, AreNew, AreOver, AreSince, IsSince, begins_at, begins_by_step, history_over, is_at, does_run, looked, no_history, stepper, stepper_at}
 
 -- what holds at a tick, or nothing has been seen yet
 abbrev pub IsSeen : (Activity → Activity → Bool) → World → ℕ → ℕ → ℕ → History → Type 0
@@ -163,9 +163,9 @@ begins_not : (steps : ℕ) (after : State) (t : ℕ) (activity : Activity)
     → (steps < after.account.steps → (entry : Entry) → after.part.last ≡ Some entry → entry.thread ≡ t → activity ≡ Running) → begins_by_step (stepper steps after) t activity ≡ false
 begins_not steps after t activity runs = at (nat_lt steps after.account.steps) refl after.part.last refl
   where
-    one : (entry : Entry) (same : Bool) → steps < after.account.steps → after.part.last ≡ Some entry → (entry.thread == t) ≡ same → (same && not (is_running activity)) ≡ false
+    one : (entry : Entry) (same : Bool) → steps < after.account.steps → after.part.last ≡ Some entry → (entry.thread == t) ≡ same → (same && not (does_run activity)) ≡ false
     one entry false more last test = refl
-    one entry true more last test = ap (λ (a : Activity). not (is_running a)) (runs more entry last (eqb-true entry.thread t test))
+    one entry true more last test = ap (λ (a : Activity). not (does_run a)) (runs more entry last (eqb-true entry.thread t test))
 
     at : (more : Bool) → nat_lt steps after.account.steps ≡ more → (last : Option Entry) → after.part.last ≡ last
         → begins_by_step (if more then option_map (λ (entry : Entry). entry.thread) last else None) t activity ≡ false

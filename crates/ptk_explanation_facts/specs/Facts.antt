@@ -1,7 +1,6 @@
 -- What is read of a partition's threads.
-use Rattle.std.specs.Prelude.{Bool, ◌&&◌, if◌then◌else◌, Option, Some, None, option_map, unwrap_or}
+use Rattle.std.specs.Prelude.{Bool, ◌&&◌, if◌then◌else◌, Option, Some, None, option_map}
 use Rattle.ptk_words.specs.Names.{MutexNumber, Pointer, ThreadNumber}
-use Rattle.ptk_words.specs.Pools.{numbered}
 use Rattle.ptk_words.specs.Processor.{register}
 use Rattle.ptk_words.specs.Threads.{is_ended, is_normal}
 use Rattle.ptk_words.specs.declared.TheConstants.{SP}
@@ -11,7 +10,7 @@ use Rattle.ptk_words.specs.declared.threads.Thread.{Thread}
 use Rattle.ptk_words_model.specs.State.{Locks, Part}
 use Rattle.ptk_words_model.specs.Mutex.{mutex_at}
 use Rattle.ptk_words_model.specs.Priority.{effective_priority, thread_at}
-use Rattle.ptk_words_model.specs.ThreadCreation.{new_cancellation}
+use Rattle.ptk_words_model.specs.CancellationCalls.{cancellation_of}
 use Rattle.ptk_mutex_priorities.specs.Slots.{state_of as mutex_state}
 use Rattle.ptk_main_runs.specs.Activity.{Activity}
 use Rattle.ptk_main_runs.specs.Activities.{activity_in, mutex_of_activity}
@@ -33,7 +32,7 @@ owner_of awaited = option_map (λ state. state.owner) awaited.state
 
 -- a request to cancel a thread in this phase is pending: one that unwinds has acted on its own (pthread_cancel, XSH 2.9.5.2)
 abbrev pub is_cancel_pending : Part → ThreadNumber → Phase → Bool
-is_cancel_pending s t phase = is_normal phase && (unwrap_or (numbered s.cancellations t) new_cancellation).is_pending
+is_cancel_pending s t phase = is_normal phase && (cancellation_of s t).is_pending
 
 -- the pc of a thread, None where it has ended (pthread_exit)
 abbrev pub live_pc : Thread → Option Pointer

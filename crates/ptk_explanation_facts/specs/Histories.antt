@@ -36,18 +36,18 @@ abbrev pub stepper : ℕ → State → Option ThreadNumber
 stepper steps after = if nat_lt steps after.account.steps then option_map (λ (entry : Entry). entry.thread) after.part.last else None
 
 -- it runs (own)
-abbrev pub is_running : Activity → Bool
-is_running Free = false
-is_running Running = true
-is_running Ready = false
-is_running (Blocked wait) = false
-is_running Ended = false
-is_running Halted = false
+abbrev pub does_run : Activity → Bool
+does_run Free = false
+does_run Running = true
+does_run Ready = false
+does_run (Blocked wait) = false
+does_run Ended = false
+does_run Halted = false
 
 -- a thread that does this begins it with its own step: the step was of its number, and it does not run on (own)
 abbrev pub begins_by_step : Option ThreadNumber → ThreadNumber → Activity → Bool
 begins_by_step None t activity = false
-begins_by_step (Some by) t activity = by == t && not (is_running activity)
+begins_by_step (Some by) t activity = by == t && not (does_run activity)
 
 -- what is seen of the thread of a number after the decision at a tick, at which a thread made a step or none did: what it does, since when, and the least of its stack pointers; `is_same` says whether it does the same as before (own)
 abbrev pub looked : (Activity → Activity → Bool) → Option ThreadNumber → Part → ThreadNumber → Tick → History → History

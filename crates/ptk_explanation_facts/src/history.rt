@@ -3,7 +3,7 @@
 ghost use Rattle.std.specs.Prelude.{◌≡◌, ◌<◌, ◌≤◌, IfOk, MatchResult, if◌then◌else◌, length, max};
 ghost use Rattle.ptk_words.specs.declared.TheConstants.{LAST_TICK};
 ghost use Rattle.ptk_main_runs.specs.World.{at_tick, state_of};
-ghost use Rattle.ptk_explanation_facts.specs.Histories.{AreLooked, AreNew, AreSeenTo, AreSince, begins_by_step, is_running, least_before, lesser, looked, no_history, stepper};
+ghost use Rattle.ptk_explanation_facts.specs.Histories.{AreLooked, AreNew, AreSeenTo, AreSince, begins_by_step, does_run, least_before, lesser, looked, no_history, stepper};
 
 use crate::facts::thread_count;
 use ptk_main_runs::{Activity, System};
@@ -68,14 +68,14 @@ fn begins_by_step(by: &Option<ThreadNo>, t: ThreadNo, activity: &Activity) -> bo
     ensures { result ≡ begins_by_step by.now t activity.now }
 {
     match by {
-        Some(by) => by.number() == t.number() && !is_running(activity),
+        Some(by) => by.number() == t.number() && !does_run(activity),
         None => false,
     }
 }
 
 /// Whether a thread that does this runs.
-fn is_running(activity: &Activity) -> bool
-    ensures { result ≡ is_running activity.now }
+fn does_run(activity: &Activity) -> bool
+    ensures { result ≡ does_run activity.now }
 {
     match activity {
         Activity::Running => true,
