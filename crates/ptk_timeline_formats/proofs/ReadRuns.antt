@@ -8,7 +8,7 @@ use Rattle.ptk_words_windows.specs.Windows.{IsOwn}
 use Rattle.ptk_words_windows.proofs.OwnLaws.{own_apart}
 use Rattle.ptk_words_model.specs.State.{Part}
 use Rattle.ptk_config.specs.Configuration.{IsConfiguration}
-use Rattle.ptk_system.proofs.Runs.{is_plan}
+use Rattle.ptk_timeline_changes.proofs.Runs.{is_plan}
 use Rattle.ptk_timeline_changes.specs.Dumps.{dump_head, each_text}
 use Rattle.ptk_timeline_changes.specs.World.{World, at_tick, section_at}
 use Rattle.ptk_timeline_changes.specs.declared.change.ShownSince.{ShownSince}

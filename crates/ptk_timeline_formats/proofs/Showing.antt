@@ -8,7 +8,7 @@ use Rattle.ptk_timeline_changes.specs.Steps.{tick_behind_step}
 use Rattle.ptk_timeline_formats.specs.declared.view.PartView.{PartView}
 use Rattle.ptk_timeline_formats.specs.Outputs.{Output}
 use Rattle.ptk_timeline_formats.specs.Runs.{AreStretches, IsStretch, Scene, no_stretch, one_stretch}
-use Rattle.ptk_timeline_formats.specs.Ticks.{IsStatusOf, IsStepAt}
+use Rattle.ptk_timeline_formats.specs.Ticks.{IsStatusOf, IsShownStep}
 use Rattle.ptk_timeline_formats.specs.Views.{AreShown, runner_shown}
 
 -- the step, if it takes up the tick: it ends behind it
@@ -25,7 +25,7 @@ pub record Shows (step : Option Step) (s : Part) (view : PartView) : Type 0 wher
 -- the view shows what the state behind a tick says, while the view's own step takes up the tick, if it does
 pub record ShowsAt (world : World) (p tick : ℕ) (view : PartView) : Type 0 where
   pub shows : Shows (step_at tick view.step) (state_of (at_tick (tick + 1) world) p).part view
-  pub step : (one : Step) → step_at tick view.step ≡ Some one → IsStepAt world p tick one
+  pub step : (one : Step) → step_at tick view.step ≡ Some one → IsShownStep world p tick one
 
 -- of a stretch: what the decision has shown, up to the end of its step; then what the last plain step has shown, up to its end; then what that has made of its thread
 abbrev pub view_at : ℕ → ℕ → PartView → PartView → PartView → ℕ → PartView

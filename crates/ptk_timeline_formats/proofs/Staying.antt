@@ -14,9 +14,9 @@ use Rattle.ptk_words_model.specs.Priority.{effective_priority, thread_at}
 use Rattle.ptk_words_model.specs.Schedule.{is_running}
 use Rattle.ptk_words_sync_invariant.specs.Locks.{is_ready}
 use Rattle.ptk_words_invariant.specs.Well.{IsWell}
-use Rattle.ptk_system.specs.declared.activity.Activity.{Activity}
-use Rattle.ptk_system.specs.declared.activity.Activity.TheVariants as does
-use Rattle.ptk_system.specs.Activities.{activity_in, activity_of_number, activity_of_wait}
+use Rattle.ptk_timeline_changes.specs.Activity.{Activity}
+use Rattle.ptk_timeline_changes.specs.Activity.TheVariants as does
+use Rattle.ptk_timeline_changes.specs.Activities.{activity_in, activity_of_number, activity_of_wait}
 use Rattle.ptk_timeline_changes.specs.RunSteps.{next_within, step_end}
 use Rattle.ptk_timeline_changes.specs.Going.{DoTheSame}
 use Rattle.ptk_timeline_changes.specs.PartStatus.{PartStatus}

@@ -1,13 +1,13 @@
 -- Why what is shown last at a tick is what the state behind it says.
-use Rattle.std.proofs.Common.{◌≡◌, ◌∙◌, ◌<◌, ◌≤◌, ◌+◌, ◌==◌, ℕ, Bool, true, false, List, Option, Some, None, ◌⊎◌, inl, inr, length, nat_lt, max, refl, sym, ap, subst, arith, eq-eqb}
+use Rattle.std.proofs.Common.{◌≡◌, ◌∙◌, ◌<◌, ◌≤◌, ◌+◌, ◌==◌, ℕ, Bool, true, false, List, Option, Some, None, ◌⊎◌, inl, inr, length, nat_lt, max, min, refl, sym, ap, subst, arith, eq-eqb}
 use Rattle.std.specs.Prelude.{if◌then◌else◌}
 use Rattle.std.proofs.lemmas.Bool.{cases_lt, false≢true, le-ltb, lt-ltb}
 use Rattle.ptk_words.specs.declared.sections.Entry.{Entry}
 use Rattle.ptk_words_model.specs.State.{Part, State}
 use Rattle.ptk_words_invariant.specs.Well.{IsWell}
 use Rattle.ptk_config.specs.Configuration.{IsConfiguration}
-use Rattle.ptk_system.proofs.Going.{undecided}
-use Rattle.ptk_system.proofs.Stays.{well_here}
+use Rattle.ptk_timeline_changes.proofs.Going.{undecided}
+use Rattle.ptk_timeline_changes.proofs.Stays.{well_here}
 use Rattle.ptk_timeline_changes.specs.Going.{GoesOnAsIs}
 use Rattle.ptk_timeline_changes.specs.World.{World, at_tick, but_next, section_at, state_of}
 use Rattle.ptk_timeline_changes.specs.declared.step.Step.{Step}
@@ -15,7 +15,7 @@ use Rattle.ptk_timeline_changes.specs.Steps.{is_step_over, step_since, step_with
 use Rattle.ptk_timeline_formats.specs.declared.view.PartView.{PartView}
 use Rattle.ptk_timeline_formats.specs.Outputs.{Output}
 use Rattle.ptk_timeline_formats.specs.Runs.{AreStretches, IsEndShown, IsStepShown, IsStretch, IsWindow, Scene, no_stretch, one_stretch}
-use Rattle.ptk_timeline_formats.specs.Ticks.{IsStepAt}
+use Rattle.ptk_timeline_formats.specs.Ticks.{IsShownStep}
 use Rattle.ptk_timeline_formats.proofs.Showing.{Shows, ShowsAt, step_at, view_at, view_over, view_since}
 use Rattle.ptk_timeline_formats.proofs.Staying.{IsSame, IsWithin, behind_within, last_since, last_within, since_within, same_does, same_others, shows_same, status_is, until_next}
 
@@ -210,26 +210,30 @@ module _ (world : World) (p : ℕ) (is_config : IsConfiguration world.config) (p
 
   -- whose step it is that is shown
   step_from : (by k : ℕ) (one : Step) → now.due + 1 ≤ by → by ≤ next.world.tick → now.due ≤ k → k < next.due → (entry : Entry) × ((states by).part.last ≡ Some entry) × (entry.thread ≡ one.thread)
-      → IsStepAt world p k one
+      → IsShownStep world p k one
   step_from by k one from to low high it = record {
     by = by;
     entry = it.0;
     last = it.1;
     thread = it.2;
-    same = λ t. (same_until by from to).shown false t ∙ sym ((same_all (k + 1) (omega (arith, low)) (omega (arith, high))).shown false t);
+    same = λ j above below t. (between j above below (cases_lt (k + 1) j)).shown false t ∙ sym ((same_all (k + 1) (omega (arith, low)) (omega (arith, high))).shown false t);
   }
+    where
+      between : (j : ℕ) → min by (k + 1) ≤ j → j ≤ max by (k + 1) → (k + 1 < j) ⊎ (j ≤ k + 1) → IsSame (states (now.due + 1)).part (states j).part
+      between j above below (inl past) = same_until j (omega (arith, above, from, low)) (omega (arith, below, past, to))
+      between j above below (inr until) = same_all j (omega (arith, above, from, low)) (omega (arith, until, high))
 
-  decided_step : (k : ℕ) (one : Step) → now.due ≤ k → k < next.due → stretch.decided.step ≡ Some one → IsStepAt world p k one
+  decided_step : (k : ℕ) (one : Step) → now.due ≤ k → k < next.due → stretch.decided.step ≡ Some one → IsShownStep world p k one
   decided_step k one low high is = step_from (now.due + 1) k one (omega arith) goes low high (last_since now.view.steps now.due end (states (now.due + 1)) one (sym decision ∙ is))
 
-  stepped_step : (k : ℕ) (one : Step) → now.due ≤ k → k < next.due → stretch.stepped.step ≡ Some one → IsStepAt world p k one
+  stepped_step : (k : ℕ) (one : Step) → now.due ≤ k → k < next.due → stretch.stepped.step ≡ Some one → IsShownStep world p k one
   stepped_step k one low high is =
       by
       (step_is output p (tick_behind_step now.due stretch.decided.step) (state_of next.world p) stretch.decided_at stretch.stepped_at stretch.decided stretch.stepped stretch.of_step
       (step_within stretch.decided.steps (tick_behind_step now.due stretch.decided.step) end (state_of next.world p)) stretch.step)
     where
       by : (stretch.stepped.step ≡ stretch.decided.step) ⊎ (stretch.stepped.step ≡ step_within stretch.decided.steps (tick_behind_step now.due stretch.decided.step) end (state_of next.world p))
-          → IsStepAt world p k one
+          → IsShownStep world p k one
       by (inl kept) = decided_step k one low high (sym kept ∙ is)
       by (inr new) =
           step_from next.world.tick k one goes (omega arith) low high
@@ -249,14 +253,14 @@ module _ (world : World) (p : ℕ) (is_config : IsConfiguration world.config) (p
       then_on : PartView
       then_on = if nat_lt tick (tick_behind_step next.due stretch.stepped.step) then stretch.stepped else next.view
 
-      one : (due : ℕ) (view : PartView) → tick < tick_behind_step due view.step → Shows view.step (states (tick + 1)).part view → ((step : Step) → view.step ≡ Some step → IsStepAt world p tick step)
+      one : (due : ℕ) (view : PartView) → tick < tick_behind_step due view.step → Shows view.step (states (tick + 1)).part view → ((step : Step) → view.step ≡ Some step → IsShownStep world p tick step)
           → ShowsAt world p tick view
       one due view before shows step = record {
         shows = subst (λ (step : Option Step). Shows step (states (tick + 1)).part view) (sym (goes_on due tick view.step before)) shows;
         step = λ it is. step it (sym (goes_on due tick view.step before) ∙ is);
       }
 
-      no_step : (step : Step) → step_at tick next.view.step ≡ None → step_at tick next.view.step ≡ Some step → IsStepAt world p tick step
+      no_step : (step : Step) → step_at tick next.view.step ≡ None → step_at tick next.view.step ≡ Some step → IsShownStep world p tick step
       no_step step none is = let both : None ≡ Some step = sym none ∙ is in absurd (let no : ⊥ = cc in no)
 
       by : (tick < tick_behind_step now.due stretch.decided.step) ⊎ (tick_behind_step now.due stretch.decided.step ≤ tick)

@@ -7,8 +7,8 @@ use Rattle.ptk_words_windows.specs.Windows.{IsFirstOwn, IsOwn, IsOwnUntil, IsPla
 use Rattle.ptk_words_windows.proofs.OwnLaws.{end_none, end_of_window, end_one, own_apart, own_from, until_near, window_whole}
 use Rattle.ptk_words_model.specs.State.{Part, State}
 use Rattle.ptk_config.specs.Configuration.{IsConfiguration}
-use Rattle.ptk_system.proofs.OwnDecisions.{by_decision}
-use Rattle.ptk_system.proofs.Runs.{is_plan}
+use Rattle.ptk_timeline_changes.proofs.OwnDecisions.{by_decision}
+use Rattle.ptk_timeline_changes.proofs.Runs.{is_plan}
 use Rattle.ptk_timeline_changes.specs.World.{World, at_tick, state_of}
 use Rattle.ptk_timeline_formats.specs.declared.board.Board.{Board}
 use Rattle.ptk_timeline_formats.specs.declared.view.PartView.{PartView}

@@ -5,7 +5,7 @@ use Rattle.ptk_words.specs.Names.{ThreadNumber}
 use Rattle.ptk_words.specs.contracts.numbers.ThreadNoPartialEq.TheImpl as number_eq
 use Rattle.ptk_words_model.specs.State.{Part, State}
 use Rattle.ptk_config.specs.Sections.{Section}
-use Rattle.ptk_system.specs.contracts.status.PartStatusPartialEq.TheImpl as status_eq
+use Rattle.ptk_timeline_changes.below.ptk_system.specs.contracts.status.PartStatusPartialEq.TheImpl as status_eq
 use Rattle.ptk_timeline_changes.specs.PartStatus.{PartStatus}
 use Rattle.ptk_timeline_changes.specs.World.{World, state_of}
 use Rattle.ptk_timeline_changes.specs.declared.change.TheConstants.{PARTS}

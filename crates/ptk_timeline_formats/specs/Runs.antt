@@ -5,7 +5,7 @@ use Rattle.ptk_words.specs.declared.TheConstants.{THREAD_LIMIT}
 use Rattle.ptk_words_windows.specs.Windows.{IsFirstOwn, IsOwn, IsOwnUntil, WindowPlan}
 use Rattle.ptk_words_model.specs.State.{Part, State}
 use Rattle.ptk_config.specs.Configuration.{Configuration}
-use Rattle.ptk_timeline_changes.specs.Going.{GoesOnAsIs}
+use Rattle.ptk_timeline_changes.specs.Going.{GoesOnAsIs, IsLatest}
 use Rattle.ptk_timeline_changes.specs.World.{World, at_tick, but_next, section_at, state_of}
 use Rattle.ptk_timeline_changes.specs.declared.change.ShownSince.{ShownSince}
 use Rattle.ptk_timeline_changes.specs.declared.step.Step.{Step}
@@ -69,10 +69,6 @@ pub record Scene : Type 0 where
   pub due : ℕ
   pub at : ℕ
   pub view : PartView
-
--- no later tick up to another is one up to which nothing of a partition changes but the tick of its next decision (own)
-abbrev pub IsLatest : World → ℕ → ℕ → ℕ → Type 0
-IsLatest world p end due = (k : ℕ) → k ≤ end → ((j : ℕ) → world.tick ≤ j → j ≤ k → but_next (state_of (at_tick j world) p) ≡ but_next (state_of world p)) → k ≤ due
 
 -- a system goes on over plain steps to a later tick, at most the window's end, and each thread of a partition does what it did; then nothing of the partition changes up to the tick that is due, the latest such up to the window's end, which is not before that later tick unless this is past the window's end (own)
 pub record IsPassage (p begin end : ℕ) (first later : World) (due : ℕ) : Type 0 where

@@ -1,14 +1,13 @@
 -- What trace events have of what is shown of a partition, by tests of what is the same.
-use Rattle.std.specs.Prelude.{ℕ, ◌-◌, nat_lt, nat_le, ◌==◌, List, [], ◌∷◌, ◌++◌, Bool, true, false, ◌||◌, not, if◌then◌else◌, Option, Some, None, unwrap_or, flat_map, take}
+use Rattle.std.specs.Prelude.{ℕ, ◌-◌, nat_lt, nat_le, ◌==◌, List, [], ◌∷◌, ◌++◌, Bool, true, false, ◌||◌, not, if◌then◌else◌, Option, Some, None, flat_map, take}
 use Rattle.std.specs.Bool.{then_some}
 use Rattle.std.specs.List.{enumerate_from}
 use Rattle.ptk_words.specs.Names.{ThreadNumber}
-use Rattle.ptk_words.specs.Pools.{numbered}
 use Rattle.ptk_words.specs.declared.TheConstants.{THREAD_LIMIT}
 use Rattle.ptk_words.specs.declared.threads.Wait.{Wait}
 use Rattle.ptk_words.specs.declared.threads.Wait.TheVariants.{InputWait, SleepWait, JoinWait, MutexWait, ConditionWait, RelockWait}
 use Rattle.ptk_words_model.specs.State.{Part, State}
-use Rattle.ptk_words_model.specs.ThreadCreation.{new_cancellation}
+use Rattle.ptk_words_model.specs.CancellationCalls.{cancellation_of}
 use Rattle.ptk_timeline_changes.specs.PartStatus.{PartStatus}
 use Rattle.ptk_timeline_changes.specs.Told.{pc_in}
 use Rattle.ptk_timeline_changes.specs.declared.shown.Doing.{Doing}
@@ -35,7 +34,7 @@ has_come tick (Some deadline) = nat_le deadline tick
 
 -- a cancellation took the thread out of its wait (XSH 2.9.5.2)
 abbrev pub is_taken_out : ℕ → Part → Bool
-is_taken_out t s = (unwrap_or (numbered s.cancellations t) new_cancellation).is_marked
+is_taken_out t s = (cancellation_of s t).is_marked
 
 -- a wait ends by itself by a tick: its deadline has come, or it is for input and no cancellation took its thread out of it (own)
 abbrev pub ends_by_itself : Bool → ℕ → Wait → Bool

@@ -23,9 +23,10 @@
 //! - Of each such dump: the ticks of its lines only grow, and at each of its ticks a reader, who has of each signal the
 //!   last value that is written at that tick or before, has what the state of the partition behind that tick says: its
 //!   window, its status, its running thread, and of each thread what it does, with its effective priority
-//!   (`dumps_are_true`: `IsTrueDump`, `AreOfTick`). Two things are said less closely. Which ticks a step takes up is
-//!   not read from the states: of the step that is shown is said whose it is. And of a partition that is not halted,
-//!   and of which no thread runs, it is left open whether it is shown as idle or as running.
+//!   (`dumps_are_true`: `IsTrueDump`, `AreOfTick`). Two signals have two identifiers (`signals_are_apart`). Two things
+//!   are said less closely. Which ticks a step takes up is not read from the states: of the step that is shown is said
+//!   whose it is, made at a tick between which and this one no thread does anything else. And of a partition that is
+//!   not halted, and of which no thread runs, it is left open whether it is shown as idle or as running.
 //! - What trace events have of changes is the definition's too (`events` of `Sheet::put_each`: `changes_events`), and
 //!   so is which changes a view writes: of what is shown, all that is not as before (`events` of `PartView::show`,
 //!   `go_on` and `settle`: `part_events`), at a decision what is lost too (`decide`: `decision_events`), the names of
@@ -47,6 +48,6 @@ mod threads;
 mod view;
 
 pub use fault::FormatFault;
-pub use laws::dumps_are_true;
+pub use laws::{dumps_are_true, signals_are_apart};
 pub use run::dump_with;
 pub use sheet::Form;

@@ -3,11 +3,12 @@
 ghost use Rattle.std.specs.Prelude.{◌≡◌, ℕ, ◌+◌, ◌<◌, ◌≤◌, ⊤, All, List, [], None, Some, IfOk, IfSome, MatchBool, MatchOption, OnOk, length, min, vec_len};
 ghost use Rattle.std.specs.Io.KnownBytes.{Appends};
 ghost use Rattle.ptk_words.specs.declared.TheConstants.{LAST_TICK, THREAD_LIMIT};
+ghost use Rattle.ptk_timeline_changes.specs.Going.{IsLatest};
 ghost use Rattle.ptk_timeline_changes.specs.World.{at_tick, but_next, state_of};
 ghost use Rattle.ptk_timeline_changes.specs.Steps.{is_step_over, step_since, step_within, tick_behind_step};
 ghost use Rattle.ptk_timeline_formats.specs.declared.sheet.Form.TheVariants.{Vcd, Events};
 ghost use Rattle.ptk_timeline_formats.specs.Outputs.{output_of};
-ghost use Rattle.ptk_timeline_formats.specs.Runs.{IsLatest, IsStretch, IsWindow};
+ghost use Rattle.ptk_timeline_formats.specs.Runs.{IsStretch, IsWindow};
 ghost use Rattle.ptk_timeline_formats.specs.Texts.{first_text, part_behind, part_text};
 ghost use Rattle.ptk_timeline_formats.specs.Traces.{decision_events, first_events, last_events, lost_events, part_events};
 ghost use Rattle.ptk_timeline_formats.specs.Views.{AreKeptSince, AreShown, kept_in, runner_shown, start_in, status_shown};
