@@ -12,9 +12,10 @@ use Rattle.ptk_main_faults.specs.declared.fault.Fault.TheVariants.{FailedOn}
 use Rattle.ptk_main_faults.specs.declared.fault.FailureKind.{FailureKind}
 use Rattle.ptk_main_faults.specs.Told.{text}
 use Rattle.ptk_words_model.specs.State.{State}
+use Rattle.ptk_main_runs.specs.Going.{AllStandStill}
 use Rattle.ptk_main_runs.specs.Told.{is_halted, status_in}
 use Rattle.ptk_main_runs.specs.World.{World, at_tick, state_of, world_at}
-use Rattle.ptk_main_answers.specs.Expectations.{AreHalted, AreStill, IsEnd, IsFailed, IsFailedOn, IsFailure, IsHaltLook, IsNextStop, IsNoFailure, IsOnWay, IsPassed, IsReported, IsUnlike}
+use Rattle.ptk_main_answers.specs.Expectations.{AreHalted, IsEnd, IsFailed, IsFailedOn, IsFailure, IsHaltLook, IsNextStop, IsNoFailure, IsOnWay, IsPassed, IsReported, IsUnlike}
 use Rattle.ptk_main_answers.specs.Images.{part_name}
 use Rattle.ptk_main_answers.specs.Watching.{HasWatched, WasWatched}
 use Rattle.ptk_main_answers.specs.declared.run.RunQuestion.{RunQuestion}
@@ -44,7 +45,7 @@ look_on : (tick stride n : ℕ) → IsHaltLook tick → stride ≡ n * HALT_STRI
 look_on tick stride n at is = (at.0 + n, omega (arith, at.1, is))
 
 -- where nothing changes up to a tick, every partition has halted there only if it has here
-halted_still : (w : World) (k : ℕ) → w.tick ≤ k → AreStill w k → AreHalted (at_tick k w) → AreHalted w
+halted_still : (w : World) (k : ℕ) → w.tick ≤ k → AllStandStill w k → AreHalted (at_tick k w) → AreHalted w
 halted_still w k on still halted = λ q lt. ap (λ (s : State). is_halted (status_in s.part)) (sym (still q lt k on (omega arith))) ∙ halted q lt
 
 -- a run that goes on by WATCH_STRIDE
@@ -62,8 +63,8 @@ stops_far until_halted last stop w unasked at early is = record {
 }
 
 -- a run that goes over the multiples up to which nothing changes
-pub stops_still : (until_halted : Bool) (last end still near stop : ℕ) (w : World) → until_halted ≡ true → IsHaltLook w.tick → w.tick < last → end ≡ min last (w.tick + WATCH_STRIDE) → still ≤ end → AreStill w still
-    → ((k : ℕ) → k ≤ end → AreStill w k → k ≤ still) → near ≡ min last (w.tick + HALT_STRIDE) → stop ≡ max near (still / HALT_STRIDE * HALT_STRIDE) → IsNextStop until_halted last w stop
+pub stops_still : (until_halted : Bool) (last end still near stop : ℕ) (w : World) → until_halted ≡ true → IsHaltLook w.tick → w.tick < last → end ≡ min last (w.tick + WATCH_STRIDE) → still ≤ end → AllStandStill w still
+    → ((k : ℕ) → k ≤ end → AllStandStill w k → k ≤ still) → near ≡ min last (w.tick + HALT_STRIDE) → stop ≡ max near (still / HALT_STRIDE * HALT_STRIDE) → IsNextStop until_halted last w stop
 stops_still until_halted last end still near stop w asked at early is within stay latest next to =
     let whole : ℕ = still / HALT_STRIDE in
     let below : whole * HALT_STRIDE ≤ still = div-mul-le_self still HALT_STRIDE in

@@ -3,7 +3,8 @@ use Rattle.std.specs.Prelude.{◌≡◌, ◌≢◌, ◌<◌, ◌≤◌, ◌+◌,
 use Rattle.std.specs.Io.KnownBytes.{Appends}
 use Rattle.ptk_main_runs.specs.Shown.{report_of}
 use Rattle.ptk_main_runs.specs.Told.{is_halted, status_in}
-use Rattle.ptk_main_runs.specs.World.{World, at_tick, but_next, state_of}
+use Rattle.ptk_main_runs.specs.Going.{AllStandStill}
+use Rattle.ptk_main_runs.specs.World.{World, at_tick, state_of}
 use Rattle.ptk_main_runs.specs.PartStatus.{PartStatus}
 use Rattle.ptk_main_runs.specs.PartStatus.TheVariants as status
 use Rattle.ptk_main_faults.specs.declared.fault.FailureKind.{FailureKind}
@@ -67,10 +68,6 @@ pub record IsOnWay (until_halted : Bool) (last : ℕ) (world : World) : Type 0 w
   pub look : world.tick < last → IsHaltLook world.tick
   pub first : IsTrue until_halted → (k : ℕ) → k * HALT_STRIDE < world.tick → ¬ AreHalted (at_tick (k * HALT_STRIDE) world)
 
--- nothing of any partition changes from the system's tick on and up to another, but the ticks of the next decisions (own)
-abbrev pub AreStill : World → ℕ → Type 0
-AreStill world to = (p : ℕ) → p < length world.config.sections → (k : ℕ) → world.tick ≤ k → k ≤ to → but_next (state_of (at_tick k world) p) ≡ but_next (state_of world p)
-
 -- where a run to a last tick stops next: at most WATCH_STRIDE on, at a multiple of HALT_STRIDE or at the last tick. Where it is to end once all have halted, they have halted at a multiple that it passes over only if they have here, and a tick up to which nothing changes is less than HALT_STRIDE behind the stop. Where it is not, it goes on by WATCH_STRIDE, or to the last tick (own)
 pub record IsNextStop (until_halted : Bool) (last : ℕ) (world : World) (stop : ℕ) : Type 0 where
   pub later : world.tick < stop
@@ -78,7 +75,7 @@ pub record IsNextStop (until_halted : Bool) (last : ℕ) (world : World) (stop :
   pub soon : stop ≤ world.tick + WATCH_STRIDE
   pub look : stop < last → IsHaltLook stop
   pub passed : IsTrue until_halted → (k : ℕ) → world.tick < k * HALT_STRIDE → k * HALT_STRIDE < stop → AreHalted (at_tick (k * HALT_STRIDE) world) → AreHalted world
-  pub far : IsTrue until_halted → (k : ℕ) → k ≤ min last (world.tick + WATCH_STRIDE) → AreStill world k → k < stop + HALT_STRIDE
+  pub far : IsTrue until_halted → (k : ℕ) → k ≤ min last (world.tick + WATCH_STRIDE) → AllStandStill world k → k < stop + HALT_STRIDE
   pub unasked : until_halted ≡ false → stop ≡ min last (world.tick + WATCH_STRIDE)
 
 -- it ends there: at the last tick, or on request where every partition has halted, which is the first such multiple (own)

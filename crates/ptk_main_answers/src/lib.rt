@@ -23,22 +23,20 @@
 //! - `explain_with` returns a text's first fault with its place, and writes what `explain` does (`written`).
 //! - Who watches a run has seen ticks of it, each later than the one before by at most 2^20 and the last one its end,
 //!   also where it is not as expected (`watched`, `seen`: `WasWatched`).
-//! - Of a trace in words `shows` is the definition's choice of steps (`is_shown`), and `push_step` appends the
-//!   definition's words of a step (`step_words`): those of its pc and word, and behind an ECALL the call by the state
-//!   before the step and the reply by the state behind it. A line that is a step's is read as that step (`entry_in`:
-//!   `step_line`). So `decoded_trace_with` and `decoded_answer` write the definition's words of the steps of the trace
-//!   (`words`: `worded_text`). An unknown name is refused as by `trace_with`.
+//! - Of a trace in words `shows` is the definition's choice of steps (`is_shown`), and `push_step` appends the words of
+//!   a step (`step_words`): those of its pc and word, and behind an ECALL the call by the state before the step and the
+//!   reply by the state behind it. A line that is a step's is read as that step (`entry_in`: `step_line`). So
+//!   `decoded_trace_with` and `decoded_answer` write the words of the trace's steps (`words`: `worded_text`).
 //!
 //! Each line of a trace in words is as the trace has it; behind two blanks and `#` are the symbol that is nearest to
 //! the step's pc and its instruction as the disassembler spells it; behind an ECALL the call's POSIX name and the name
 //! of its reply, or `blocked`. The number of a call is in a7, which a trace does not keep: a second system of the same
 //! boot goes on to each ECALL that is shown.
 //!
-//! That the answer to a request succeeds with ample memory is tested, and the bytes of all of them with it
-//! (`ptk_main_tests`). What needs the figures, the pictures or the explanation of a run is in `ptk_main_commands`.
-//! Below are the command line (`ptk_main_line`), the faults (`ptk_main_faults`), whole runs (`ptk_main_runs`), the
-//! system (`ptk_system`), symbols and the disassembler, and the words of a configuration (`ptk_config_explain`); above
-//! is the program, which reads the files and lends its standard output. No clause is costly to prove.
+//! That a request succeeds with ample memory, and its bytes, are tested (`ptk_main_tests`). What needs the figures, the
+//! pictures or the explanation of a run is in `ptk_main_commands`. Below are the command line (`ptk_main_line`), the
+//! faults (`ptk_main_faults`), whole runs (`ptk_main_runs`), the system (`ptk_system`), symbols and the disassembler,
+//! and the words of a configuration (`ptk_config_explain`); above is the program.
 
 mod answer;
 mod check;

@@ -5,11 +5,10 @@
 //! - `read_line` returns a request only where clap's meaning of the command gives the words that subcommand and the
 //!   values of each of its options (`IsRun` to `IsExplain`), at most 2^40 ticks.
 //! - An error is of the kind that clap gives it, or memory ran out, or clap takes the words and they ask for nothing.
-//! - `not_text`, `one_file` and `over_input` are usage errors.
+//! - `not_text`, `one_file`, `over_input` and `undecoded` are usage errors.
 //!
-//! `undecoded` is the error of a trace that is chosen from without words. Each command's options are a struct, pinned
-//! by a definition of `specs/Requests`. Below is the crate `clap`; above is the program, which prints an error by
-//! `Error::print`, chooses the status by `Error::use_stderr`, and finds by `Error::kind` that memory ran out.
+//! Each command's options are a struct, pinned by a definition of `specs/Requests`. Below is the crate `clap`; above is
+//! the program, which prints an error, and has its status from `Error::use_stderr` and `Error::kind`.
 
 mod commands;
 mod help;

@@ -21,10 +21,8 @@ use std::alloc::{AllocError, Global};
 
 /// The last tick that a run may go to.
 pub const MOST_TICKS: u64 = 1_099_511_627_776;
-
 /// The greatest number of a thread.
 pub const MOST_THREADS: u64 = 32;
-
 /// The greatest number of steps that a trace may keep on request.
 pub const MOST_STEPS: u64 = 1_048_576;
 
@@ -32,8 +30,8 @@ pub const MOST_STEPS: u64 = 1_048_576;
 ///
 /// An error has one of the kinds that `clap` gives the words: `DisplayHelp` where they ask for help, and otherwise what
 /// is wrong with them. Its kind is `InvalidValue` where `clap` takes the words and they ask for nothing: the value of
-/// `--format` or `--fail-on` is another word. It is `OutOfMemory` where memory runs out. An argument and its values are
-/// read as `clap` reads them, so options may be before or after FILE, and `--ticks=N` is `--ticks N`.
+/// `--format` or `--fail-on` is another word. It is `OutOfMemory` where memory runs out. Options may be before or after
+/// FILE, and `--ticks=N` is `--ticks N`.
 pub fn read_line<'a>(alloc: Global, words: &'a [&'a str]) -> Result<Request<'a>, Error>
     ensures asked { IfOk result (λ r. Asks (map (λ w. w.now) words.entry.now) r) }
     ensures taken { OnOk result (fault_of ptk (map (λ w. w.now) words.entry.now) ≡ []) }
@@ -58,17 +56,15 @@ fn no_request(alloc: Global) -> Result<Error, AllocError>
     )
 }
 
-/// The error of a command line with a word that is not UTF-8, which `read_line` can't be given: a usage error with the
-/// command's usage in its text. `clap` has no kind of its own for it here, so its kind is that of a value that can't be
-/// read (own choice). An error where memory runs out.
+/// The usage error of a word that is not UTF-8, which `read_line` can't be given. `clap` has no kind for it, so it has
+/// the kind of a value that can't be read (own choice). An error where memory runs out.
 pub fn not_text(alloc: Global) -> Result<Error, AllocError>
     ensures { IfOk result (λ e. kind_of e ≡ ValueValidation) }
 {
     refusal(alloc, ErrorKind::ValueValidation, "a word is not UTF-8")
 }
 
-/// The error of `asm` where two of its files are one, of which one would be written over: a usage error. An error where
-/// memory runs out.
+/// The usage error of `asm` where two of its files are one and one is written over. An error where memory runs out.
 pub fn one_file(alloc: Global) -> Result<Error, AllocError>
     ensures { IfOk result (λ e. kind_of e ≡ ArgumentConflict) }
 {

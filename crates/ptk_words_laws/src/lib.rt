@@ -6,9 +6,8 @@
 //!   `chain_is_decided` (cycles too), `priority_is_greatest`, `sizes_stay` (each part of a state keeps its size over
 //!   whole runs), `arrivals_are_due` (what arrives by a tick is what is due), `expiries_are_in_order`,
 //!   `calls_leave_others`, `steps_leave_others` and `decisions_leave_others` (which calls act on another thread than
-//!   their caller),
-//!   `calls_keep_callers`, `steps_keep_callers` and `steps_run_no_others` (behind a step its call is in a7, and no other
-//!   thread runs).
+//!   their caller), `calls_keep_callers`, `steps_keep_callers` and `steps_run_no_others` (behind a step its call is in
+//!   a7, and no other thread runs).
 //! - 64 worked rows that the definitions compute, refused calls and the order of their checks, and robust mutexes at
 //!   their owners' ends, among them.
 //!
