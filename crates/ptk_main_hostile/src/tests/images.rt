@@ -91,7 +91,7 @@ fn with_full_bss(alloc: Global, image: &[u8]) -> Result<Vec<u8>, AllocError> {
 
 // Asserts what comes of the image cut, changed, and with the greatest bss.
 fn check_image(rt: &impl Abort, alloc: Global, config: &Config, image: &[u8]) {
-    assert_eq!(rt; image.len(), 60);
+    assert!(rt; image.len() == 60);
     assert!(rt; begins(alloc, config, image, WHOLE));
     assert_eq!(rt; first_other_cut(alloc, config, image), None);
     for place in 0..image.len() {

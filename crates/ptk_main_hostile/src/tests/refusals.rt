@@ -72,7 +72,7 @@ fn config(rt: &impl Abort, alloc: Global) -> Option<Config> {
     match read_config(alloc, CONFIG) {
         Ok(config) => Some(config),
         Err(fault) => {
-            assert_eq!(rt; fault.number(), 8);
+            assert!(rt; fault.number() == 8);
             read_config(alloc, CONFIG).ok()
         }
     }
@@ -88,7 +88,7 @@ fn image(rt: &impl Abort, alloc: Global) -> Option<Image> {
     match read_image(alloc, &IMAGE) {
         Ok(image) => Some(image),
         Err(fault) => {
-            assert_eq!(rt; fault.number(), 6);
+            assert!(rt; fault.number() == 6);
             read_image(alloc, &IMAGE).ok()
         }
     }
@@ -111,7 +111,7 @@ fn written(alloc: Global, image: &Image) -> Option<Vec<u8>> {
 fn an_image_is_refused_memory_as_it_is_written(rt: HostRuntime) {
     match image(&rt, rt.alloc()) {
         Some(image) => match written(rt.alloc(), &image) {
-            Some(bytes) => assert_eq!(rt; bytes.as_slice(), IMAGE.as_slice()),
+            Some(bytes) => assert!(rt; bytes.as_slice() == IMAGE.as_slice()),
             None => assert!(rt; false, "not written"),
         },
         None => assert!(rt; false, "not read"),
@@ -123,15 +123,15 @@ fn a_source_is_refused_memory(rt: HostRuntime) {
     let image = match assemble(rt.alloc(), SOURCE) {
         Ok(image) => Some(image),
         Err(fault) => {
-            assert_eq!(rt; fault.kind.number(), 7);
+            assert!(rt; fault.kind.number() == 7);
             assemble(rt.alloc(), SOURCE).ok()
         }
     };
     match image {
         Some(image) => {
-            assert_eq!(rt; image.text(), &IMAGE[24..60]);
-            assert_eq!(rt; image.data(), &IMAGE[60..]);
-            assert_eq!(rt; image.bss(), 4);
+            assert!(rt; image.text() == &IMAGE[24..60]);
+            assert!(rt; image.data() == &IMAGE[60..]);
+            assert!(rt; image.bss() == 4);
         }
         None => assert!(rt; false, "not assembled"),
     }
@@ -140,7 +140,7 @@ fn a_source_is_refused_memory(rt: HostRuntime) {
 // Adds a file, twice where memory is refused: then nothing of the files changed.
 fn add(rt: &impl Abort, files: &mut Files, name: &str, content: &[u8], before: Option<&[u8]>) {
     if files.add(name, content).is_err() {
-        assert_eq!(rt; files.get(name), before);
+        assert!(rt; files.get(name) == before);
         assert!(rt; files.add(name, content).is_ok());
     }
     check_content(rt, files, name, content);
@@ -148,7 +148,7 @@ fn add(rt: &impl Abort, files: &mut Files, name: &str, content: &[u8], before: O
 
 // Asserts that the file of a name has this content.
 fn check_content(rt: &impl Abort, files: &Files, name: &str, content: &[u8]) {
-    assert_eq!(rt; files.get(name), Some(content));
+    assert!(rt; files.get(name) == Some(content));
 }
 
 #[test]
@@ -172,7 +172,7 @@ fn booted<'a>(
     match System::boot(alloc, config, files) {
         Ok(system) => Some(system),
         Err(fault) => {
-            assert_eq!(rt; fault.number(), 1);
+            assert!(rt; fault.number() == 1);
             System::boot(alloc, config, files).ok()
         }
     }
@@ -193,15 +193,15 @@ fn a_boot_is_refused_memory(rt: HostRuntime) {
 fn check_told(rt: &impl Abort, system: &System<'_>) {
     let _parts = system.parts();
     let p = PartId::new(0);
-    assert_eq!(rt; system.steps(p), 9);
-    assert_eq!(rt; system.lost(p), 0);
-    assert_eq!(rt; system.output(p), b"hi".as_slice());
+    assert!(rt; system.steps(p) == 9);
+    assert!(rt; system.lost(p) == 0);
+    assert!(rt; system.output(p) == b"hi".as_slice());
     let mut bytes = [0u8; 92];
     let mut room = bytes.as_mut_slice();
     assert!(rt; system.report(&mut room).is_ok());
     let want =
         b"partition p exit 0 steps 9 lost 0\noutput 2\nhi\npartition q exit 0 steps 9 lost 0\noutput 2\nhi\n";
-    assert_eq!(rt; bytes.as_slice(), want.as_slice());
+    assert!(rt; bytes.as_slice() == want.as_slice());
     let mut bytes = [0u8; 400];
     let mut room = bytes.as_mut_slice();
     assert!(rt; system.trace(p).lines(&mut room).is_ok());

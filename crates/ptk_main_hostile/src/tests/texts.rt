@@ -59,9 +59,9 @@ fn is_refused(alloc: Global, left: usize) -> bool {
 fn a_configuration_is_cut_at_each_byte(rt: HostRuntime) {
     let alloc = rt.alloc();
     let bytes = FIRST_PATH.as_bytes();
-    assert_eq!(rt; config_fault(alloc, bytes), 0);
+    assert!(rt; config_fault(alloc, bytes) == 0);
     match bytes.strip_suffix(b"\n") {
-        Some(quoted) => assert_eq!(rt; config_fault(alloc, quoted), 0),
+        Some(quoted) => assert!(rt; config_fault(alloc, quoted) == 0),
         None => assert!(rt; false, "no line"),
     }
     match bytes.strip_suffix(b"\"\n") {
