@@ -4,7 +4,7 @@
 //!
 //! - One vector of memory, seen as a list for each partition.
 //! - `lend` and `write` change p's alone.
-//! - `read` at the end is None.
+//! - `read` returns None at and past the end of p's bytes.
 //!
 //! Below are `ptk_words_parted`, which cuts the vector, and `ptk_words`; above are the gate and the kernel. No clause
 //! is costly to prove.

@@ -46,7 +46,11 @@ fn digit(n: u32) -> u8
     ensures digit { result ≡ hex_digit n }
     ensures ascii { result < 128 }
 {
-    if n < 10 { b'0' + n as u8 } else { 87 + n as u8 }
+    if n < 10 {
+        b'0' + n as u8
+    } else {
+        b'a' + (n - 10) as u8
+    }
 }
 
 // The eight digits of a word to base 16.

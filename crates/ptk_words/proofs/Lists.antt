@@ -1,13 +1,14 @@
--- Lists: numbers of which none is twice, who is in, and the choice of the first of greatest rank; lists that are equal, and what holds of each element.
+-- Lists: numbers of which none is twice, who is in, and the choice of the first of greatest rank; lists that are equal, what holds of each element, the first that passes a test, and items written over others.
 use Rattle.std.proofs.Common.{◌≡◌, ℕ, ◌<◌, ◌≤◌, max, Bool, true, false, not, cond, List, [], ◌∷◌, ◌++◌, length, fold, refl, sym, ◌∙◌, ap, arith, ◌⊎◌, inl, inr, zero, suc, ◌+◌, ◌-◌, min, get_or, take, drop, subst, ap₂, add-one, length-append, length-take, length-drop}
-use Rattle.std.specs.Prelude.{◌≢◌, Option, Some, None, find, filter, nat_eq, ◌==◌, slice_get, unwrap_or, nat_lt}
-use Rattle.std.specs.List.{list_any, IsDistinct, AllByRecursion}
+use Rattle.std.specs.Prelude.{◌≢◌, Option, Some, None, find, filter, position, nat_eq, ◌==◌, slice_get, unwrap_or, nat_lt}
+use Rattle.std.specs.List.{list_any, position_or_len, IsDistinct, AllByRecursion}
 use Rattle.std.specs.Cmp.{nat_eq_equiv}
-use Rattle.std.proofs.lemmas.Bool.{cases_eq, cases_lt, eqb-true, eq-eqb, ne_eqb, or_cases, or_from, or_left, or_right, or_parts, false≢true, ltb-false}
+use Rattle.std.proofs.lemmas.Bool.{cases_eq, cases_lt, eqb-true, eq-eqb, ne_eqb, or_cases, or_from, or_left, or_right, or_parts, false≢true, lt-ltb, ltb-false}
 use Rattle.std.proofs.lemmas.List.Folds.{list_any-append}
+use Rattle.std.proofs.lemmas.List.Sums.{position_or_len_is}
 use Rattle.std.proofs.lemmas.Map.Keys.{IsDistinct-head, IsDistinct-tail, IsDistinct-cons, IsDistinct-push}
 use Rattle.std.proofs.lemmas.Map.Views.{any-filter_same}
-use Rattle.std.proofs.Math.Seq.{get_or-append_seam}
+use Rattle.std.proofs.Math.Seq.{get_or-append_seam, take-append_seam}
 use Rattle.std.proofs.lemmas.List.{get_or_append_left}
 use Rattle.std.proofs.lemmas.Option.{slice_get_past}
 use Rattle.ptk_words.specs.Pools.{without, greatest, first_of_greatest, is_in}
@@ -83,6 +84,10 @@ without_shorter t (x ∷ ts) here = elim (cases_eq x t) [
       let lt : length (without t ts) < length ts = without_shorter t ts rest in
       rw kept (omega (arith, lt)))
 ]
+
+-- who is in is none of those who are out
+pub out_of : (q k : ℕ) (ks : List ℕ) → is_in k ks ≡ false → is_in q ks ≡ true → q ≢ k
+out_of q k ks out inside = λ e. (let same : is_in k ks ≡ true = rw (← e) inside in absurd (cc))
 
 -- ---- none twice
 
@@ -236,6 +241,19 @@ each_more {A = A} P xs x are here = record { each = each }
             let at : length xs ≡ place = omega (arith, lt, length-append xs (x ∷ []), later) in
             subst (λ (k : ℕ). P k (get_or (xs ++ x ∷ []) k default)) at (subst (P (length xs)) (sym (get_or-append_seam xs x [] default)) here)
 
+-- ---- the first that passes a test
+
+pub position-at : {A : Type 0} (p : A → Bool) (xs : List A) (i : ℕ) (d : A) → i < length xs → ((k : ℕ) → k < i → p (get_or xs k d) ≡ false) → p (get_or xs i d) ≡ true → position p xs ≡ Some i
+position-at p xs i d within before here =
+    let at : position_or_len p xs ≡ i = position_or_len_is p xs i d (omega (arith, within)) before (λ _. here) in
+    ap (λ (k : ℕ). cond (nat_lt k (length xs)) (Some k) None) at ∙ ap (λ (b : Bool). cond b (Some i) None) (lt-ltb i (length xs) within)
+
+-- ---- what is written over other items
+
+-- what a slice of a vector's items is once it is written back
+pub written_back : {A : Type 0} (new items : List A) (n : ℕ) → n ≡ length new → take n (new ++ drop (length new) items) ≡ new
+written_back new items n all = ap (λ (k : ℕ). take k (new ++ drop (length new) items)) all ∙ take-append_seam new (drop (length new) items)
+
 -- ---- bytes written into a memory
 
 pub length-with_bytes : (memory bytes : List ℕ) (a : ℕ) → a + length bytes ≤ length memory → length (with_bytes memory a bytes) ≡ length memory
@@ -245,5 +263,3 @@ length-with_bytes memory bytes a h =
     let taken : length (take a memory) ≡ min a (length memory) = length-take a memory in
     let rest : length (drop (a + length bytes) memory) ≡ length memory - (a + length bytes) = length-drop (a + length bytes) memory in
     omega (arith, whole, front, taken, rest, h)
-
-pub ruleset lines = (in_head, in_push, out_head, out_push, in_here, own_push, still_push, without_other, without_own, in_without, distinct_head, distinct_push, distinct-filter, distinct_without, found_in, first_in)

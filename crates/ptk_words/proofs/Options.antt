@@ -1,7 +1,8 @@
--- Options, truth values, and numbers that a test chooses.
-use Rattle.std.proofs.Common.{◌≡◌, ℕ, suc, ◌+◌, ◌-◌, ◌<◌, ◌≤◌, max, Bool, true, false, ◌⊎◌, inl, inr, refl, sym, ap, subst, arith}
-use Rattle.std.specs.Prelude.{Option, Some, None, IsSome, is_some, option_map, if◌then◌else◌}
+-- Options, results, truth values, and numbers that a test chooses.
+use Rattle.std.proofs.Common.{◌≡◌, ℕ, suc, ◌+◌, ◌-◌, ◌<◌, ◌≤◌, max, Bool, true, false, cond, ◌⊎◌, inl, inr, refl, sym, ap, subst, ◌∙◌, arith}
+use Rattle.std.specs.Prelude.{Option, Some, None, IsSome, is_some, option_map, if◌then◌else◌, Result, Ok, Err, IfErr, IsErrAnd, IsSomeAnd, MatchBool}
 use Rattle.std.proofs.lemmas.Bool.{cases_lt, false≢true}
+use Rattle.std.proofs.lemmas.Option.{none-some}
 
 -- ---- options
 
@@ -21,6 +22,35 @@ pub mapped_some : {A : Type 0} (f : A → A) (o : Option A) → IsSome o → IsS
 mapped_some f None e = e
 mapped_some f (Some a) e = refl
 
+-- nothing is there, or something is
+pub not_both : {A : Type 0} (o : Option A) (a : A) → o ≡ None → o ≡ Some a → ⊥
+not_both o a none is = none-some a (sym none ∙ is)
+
+-- what has such a value has one
+pub some_of : {A : Type 0} (o : Option A) (P : A → Type 0) → IsSomeAnd o P → IsSome o
+some_of None P h = absurd h
+some_of (Some a) P h = refl
+
+-- where a test gives nothing it was false
+pub not_chosen : {A : Type 0} (b : Bool) (a : A) → cond b (Some a) None ≡ None → b ≡ false
+not_chosen true a e = absurd cc
+not_chosen false a e = refl
+
+-- ---- results
+
+-- an error that is passed on stays what it was
+pub passed_on : {T E : Type 0} (P : E → Type 0) (r : Result T E) (e : E) → IsErrAnd r (λ f. f ≡ e) → P e → IfErr r P
+passed_on P (Ok a) e is h = absurd is
+passed_on P (Err f) e is h = subst P (sym is) h
+
+-- ---- what a test chooses
+
+pub when_true : (b : Bool) (P Q : Type 0) → b ≡ true → P → MatchBool b P Q
+when_true b P Q is p = subst (λ (t : Bool). MatchBool t P Q) (sym is) p
+
+pub when_false : (b : Bool) (P Q : Type 0) → b ≡ false → Q → MatchBool b P Q
+when_false b P Q is q = subst (λ (t : Bool). MatchBool t P Q) (sym is) q
+
 -- ---- numbers
 
 pub max_cases : (a b : ℕ) → (max a b ≡ a) ⊎ (max a b ≡ b)
@@ -36,9 +66,13 @@ one_more P n below at k h = by (cases_lt k n)
 
 -- ---- numbers that a test chooses
 
-pub zero_either_way : (b : Bool) → ◌≡◌ {A = ℕ} (if b then 0 else 0) 0
-zero_either_way true = refl
-zero_either_way false = refl
+pub same_either_way : (b : Bool) (n : ℕ) → (if b then n else n) ≡ n
+same_either_way true n = refl
+same_either_way false n = refl
+
+pub zero_either_way : (b : Bool) (n : ℕ) → n ≡ 0 → (if b then n else 0) ≡ 0
+zero_either_way true n e = e
+zero_either_way false n e = refl
 
 pub one_at_most : (b : Bool) → (if b then 1 else 0) ≤ 1
 one_at_most true = omega arith

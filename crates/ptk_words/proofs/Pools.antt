@@ -1,5 +1,5 @@
 -- Pools: what a number has after a change of it or of another, and the numbers that are free or in use.
-use Rattle.std.proofs.Common.{◌≡◌, ℕ, zero, suc, ◌<◌, ◌≤◌, List, [], ◌∷◌, length, replicate, refl, sym, ◌∙◌, ap, subst, arith, ◌⊎◌, inl, inr, ◌-◌, true, get_or}
+use Rattle.std.proofs.Common.{◌≡◌, ℕ, zero, suc, ◌<◌, ◌≤◌, List, [], ◌∷◌, length, replicate, refl, sym, ap, subst, arith, ◌⊎◌, inl, inr, ◌-◌, true, get_or}
 use Rattle.std.specs.Prelude.{◌≢◌, Option, Some, None, option_map, unwrap_or, slice_get, slice_set, IsSome, is_none, position}
 use Rattle.std.specs.Option.{option_flatten}
 use Rattle.std.proofs.lemmas.Bool.{cases_eq}
@@ -155,15 +155,6 @@ length-update xs k f = length-update_at xs k f (numbered xs k)
 
 -- ---- lists of one value
 
-set-replicate_at : {A : Type 0} (n i : ℕ) (a : A) → slice_set (replicate n a) i a ≡ replicate n a
-set-replicate_at zero i a = refl
-set-replicate_at (suc n) zero a = refl
-set-replicate_at (suc n) (suc i) a = ap (λ xs. a ∷ xs) (set-replicate_at n i a)
-
-pub set-replicate : {A : Type 0} (n k : ℕ) (a : A) → pool_set (replicate n a) k a ≡ replicate n a
-set-replicate n zero a = refl
-set-replicate n (suc i) a = set-replicate_at n i a
-
 get-replicate_at : {A : Type 0} (n i : ℕ) (a : A) (b : A) → slice_get (replicate n a) i ≡ Some b → b ≡ a
 get-replicate_at zero i a b e = cc
 get-replicate_at (suc n) zero a b e = cc
@@ -172,15 +163,6 @@ get-replicate_at (suc n) (suc i) a b e = get-replicate_at n i a b e
 pub numbered-replicate : {A : Type 0} (n k : ℕ) (a : A) (b : A) → numbered (replicate n a) k ≡ Some b → b ≡ a
 numbered-replicate n zero a b e = cc
 numbered-replicate n (suc i) a b e = get-replicate_at n i a b e
-
-update-replicate_at : {A : Type 0} (n k : ℕ) (a : A) (f : A → A) (o : Option A) → numbered (replicate n a) k ≡ o → f a ≡ a → unwrap_or (option_map (λ b. pool_set (replicate n a) k (f b)) o) (replicate n a) ≡ replicate n a
-update-replicate_at n k a f None e same = refl
-update-replicate_at n k a f (Some b) e same =
-    let here : f b ≡ a = ap f (numbered-replicate n k a b e) ∙ same in
-    ap (λ c. pool_set (replicate n a) k c) here ∙ set-replicate n k a
-
-pub update-replicate : {A : Type 0} (n k : ℕ) (a : A) (f : A → A) → f a ≡ a → pool_update (replicate n a) k f ≡ replicate n a
-update-replicate n k a f same = update-replicate_at n k a f (numbered (replicate n a) k) refl same
 
 free_at : {A : Type 0} (n i : ℕ) → option_flatten {T = A} (slice_get (replicate n None) i) ≡ None
 free_at zero i = refl
@@ -251,5 +233,3 @@ used_at (suc i) (x ∷ threads) used = let rest : i < length threads = used_at i
 pub used_number : (t : ℕ) (threads : List (Option Thread)) → IsSome (pool_get threads t) → (0 < t) × (t ≤ length threads)
 used_number zero threads used = absurd (cc used)
 used_number (suc i) threads used = let rest : i < length threads = used_at i threads used in (omega arith, omega (arith, rest))
-
-pub ruleset pools = (numbered-set_own, numbered-set_other, length-pool_set, get-set_own, get-set_other, free_own, changed_own, changed_other, length-changed, changed_twice, update_own, update_other, length-update, set-replicate, update-replicate, get-replicate)

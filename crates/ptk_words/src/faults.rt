@@ -73,18 +73,25 @@ pub enum Cause {
 /// Why an image is refused, in the order of the checks.
 #[derive(Clone, Copy, Debug, PartialEq, Eq, Error)]
 pub enum ImageFault {
+    /// 1: the image is shorter than its header.
     #[error("the image is shorter than its header")]
     Short,
+    /// 2: the image does not begin with PTKI.
     #[error("the image does not begin with PTKI")]
     Magic,
+    /// 3: the image has an unknown version.
     #[error("the image has an unknown version")]
     Version,
+    /// 4: the image has other lengths than its header says.
     #[error("the image has other lengths than its header says")]
     Length,
+    /// 5: the entry of the image is misplaced.
     #[error("the entry of the image is misplaced")]
     Entry,
+    /// 6: out of memory.
     #[error("out of memory")]
     Memory,
+    /// 7: the image does not fit into its partition.
     #[error("the image does not fit into its partition")]
     Unfit,
 }

@@ -1,13 +1,37 @@
--- Ticks from a state that is prepared for its decision.
-use Rattle.std.proofs.Common.{◌≡◌, ℕ, zero, suc, ◌+◌, ◌-◌, eq-eqb, Bool, true, refl, sym, ap, ◌∙◌, arith}
-use Rattle.std.specs.Prelude.{Option, Some, if◌then◌else◌}
+-- A state that is prepared for its decision: its status, and ticks from it.
+use Rattle.std.proofs.Common.{◌≡◌, ℕ, zero, suc, ◌+◌, ◌-◌, eq-eqb, Bool, true, false, refl, sym, ap, ◌∙◌, arith}
+use Rattle.std.specs.Prelude.{Option, Some, None, nat_lt, if◌then◌else◌}
 use Rattle.ptk_words.specs.declared.sections.Limits.{Limits}
 use Rattle.ptk_words_windows.specs.Windows.{OwnTicks}
-use Rattle.ptk_words_model.specs.State.{Part, State}
-use Rattle.ptk_words_model.specs.Decision.{Decision, ready_at, runner_of, turn}
+use Rattle.ptk_words_model.specs.State.{Part, State, with_locks}
+use Rattle.ptk_words_model.specs.Priority.{effective_priority}
+use Rattle.ptk_words_model.specs.Schedule.{at_head, first_ready, after_choice_between, after_dispatch}
+use Rattle.ptk_words_model.specs.Withdrawal.{after_expiries}
+use Rattle.ptk_words_model.specs.Decision.{Decision, after_arrivals, ready_at, runner_of, turn}
 use Rattle.ptk_words_model.specs.Run.{accounted, is_at, decided, after_tick, after_tick_until}
+use Rattle.ptk_words_invariant.proofs.Decisions.{arrivals_status}
+use Rattle.ptk_words_invariant.proofs.Timeouts.{expiries_status}
 use Rattle.ptk_words_batches.specs.Quiet.{after_ticks}
 use Rattle.ptk_words_batches.specs.Prepared.{prepared, PreparedGoesOn}
+
+-- ---- the status
+
+choice_status : (r t : Option ℕ) (s : Part) → (after_choice_between r t s).status ≡ s.status
+choice_status r None s = refl
+choice_status None (Some t) s = refl
+choice_status (Some r) (Some t) s = by (nat_lt (effective_priority s.locks r) (effective_priority s.locks t))
+  where
+    by : (b : Bool) → (if b then after_dispatch t (with_locks (at_head r) s) else s).status ≡ s.status
+    by true = refl
+    by false = refl
+
+-- arrivals, expiries and the choice halt no partition
+pub ready_status : (limits : Limits) (tick : ℕ) (s : Part) → (ready_at limits tick s).status ≡ s.status
+ready_status limits tick s =
+    let come : Part = after_expiries tick (after_arrivals limits tick s) in
+    choice_status come.running (first_ready come.locks) come ∙ (expiries_status tick (after_arrivals limits tick s) ∙ arrivals_status limits tick s)
+
+-- ---- ticks
 
 -- the state after the turn of this prepared part
 abbrev turned : OwnTicks → Limits → ℕ → ℕ → State → Part → State

@@ -22,8 +22,9 @@ use Rattle.ptk_words_model.specs.Keys.{DestructorCall, destructor_of, next_destr
 use Rattle.ptk_words_model.specs.Unwinding.{after_unwinding_start, after_destructor_or_end, after_unwinding_move, cleanups_of, after_return, after_gate_step}
 use Rattle.ptk_words_model.specs.Withdrawal.{after_expiries}
 use Rattle.ptk_words_model.specs.Console.{arriving, without_arriving}
-use Rattle.ptk_words_model.specs.Decision.{after_arrival_for, first_waiter, after_arrival, after_arrivals, runner_at, runner_in, runner_of, step_kind, step_cost, with_thread_cpu, invocation, after_call, after_effect, after_step, entry_of, after_whole_step, Decision, after_turn, ready_at, after_decision}
+use Rattle.ptk_words_model.specs.Decision.{after_arrival_for, first_waiter, after_arrival, after_arrivals, runner_in, runner_of, step_kind, step_cost, with_thread_cpu, invocation, after_call, after_effect, after_step, entry_of, after_whole_step, Decision, after_turn, ready_at, after_decision}
 use Rattle.ptk_words.specs.Faults.{is_active}
+use Rattle.ptk_words_model.proofs.Runners.{number_at}
 use Rattle.ptk_words_invariant.specs.Well.{IsWell}
 use Rattle.ptk_words_sync_invariant.proofs.Lined.{ready_alive}
 use Rattle.ptk_words_invariant.proofs.Threads.{well_cpu, well_routine_call}
@@ -99,12 +100,6 @@ well_turn limits tick room (Some r) s runs well =
     cond_both (nat_lt room (step_cost kind)) _ _ (λ (d : Decision). IsWell limits d.part) (λ e. well) (λ e. well_whole_step limits tick r kind s (runs r refl) well)
 
 -- ---- a decision
-
-number_at : (t : ℕ) (o : Option Thread) (r : Runner) → runner_at t o ≡ Some r → t ≡ r.number
-number_at t None r e = absurd (let no : ⊥ = cc in no)
-number_at t (Some thread) r e =
-    let same : record { number = t; thread = thread } ≡ r = cc in
-    ap (λ (x : Runner). x.number) same
 
 number_in : (running : Option ℕ) (s : Part) (r : Runner) → runner_in running s ≡ Some r → running ≡ Some r.number
 number_in None s r e = absurd (let no : ⊥ = cc in no)

@@ -2,7 +2,7 @@
 use Rattle.std.proofs.Common.{◌≡◌, ℕ, ◌+◌, Bool, true, false, ◌&&◌, List, [], ◌∷◌, ◌++◌, refl, sym, ◌∙◌, ap, inl, inr}
 use Rattle.std.specs.Prelude.{◌≢◌, Option, Some, None, nat_eq, nat_lt, nat_le, ◌==◌, if◌then◌else◌}
 use Rattle.std.specs.List.{list_any}
-use Rattle.std.proofs.lemmas.Bool.{cases_eq, false≢true, eqb-true, eq-eqb, ne_eqb, leb-false, and_parts, or_right}
+use Rattle.std.proofs.lemmas.Bool.{cases_eq, false≢true, eq-eqb, ne_eqb, leb-false, and_parts, or_right}
 use Rattle.std.proofs.lemmas.Option.{none-some}
 use Rattle.ptk_words.specs.Pools.{pool_changed, without, is_in}
 use Rattle.ptk_words.specs.declared.sections.Limits.{Limits}
@@ -15,6 +15,7 @@ use Rattle.ptk_words_model.specs.Mutex.{owns_raising}
 use Rattle.ptk_words_model.specs.Schedule.{unused, at_tail, at_head, first_ready, after_dispatch, after_choice_between, after_choice, is_round_robin, is_running, after_turn_end, with_thread_used, after_interval}
 use Rattle.ptk_words_model.specs.ThreadCalls.{after_placing, after_placing_at_tail}
 use Rattle.ptk_words.specs.Faults.{is_active}
+use Rattle.ptk_words_model.proofs.Runners.{runner_is}
 use Rattle.ptk_words_sync_invariant.specs.Locks.{is_ready}
 use Rattle.ptk_words_invariant.specs.Well.{IsWell}
 use Rattle.ptk_words_sync_invariant.proofs.Lined.{AreLined, lined_stopped, lined_alike, lined_push, lined_head, lined_without, lined_dispatch}
@@ -59,10 +60,6 @@ well_turn_end limits t s runs well =
 
 -- ---- placing
 
-runs_if : (t : ℕ) (running : Option ℕ) → is_running t running ≡ true → running ≡ Some t
-runs_if t None e = absurd (false≢true e)
-runs_if t (Some r) e = ap Some (eqb-true r t e)
-
 eqb_turned : (t u : ℕ) → (u == t) ≡ nat_eq t u
 eqb_turned t u = elim (cases_eq u t) [
   | inl same ↦ eq-eqb u t same ∙ sym (eq-eqb t u (sym same))
@@ -77,7 +74,7 @@ in_line_stops limits t s here well = λ runs. false≢true (sym (well.running_ou
 
 tail_at : (limits : Limits) (t : ℕ) (s : Part) (a b : Bool) → is_running t s.running ≡ a → list_any (λ u. u == t) s.line ≡ b → IsWell limits s
     → IsWell limits (if a then (let out : Part = with_locks (at_tail t) s in record out { running = None }) else if b then with_locks (λ locks. at_tail t (record locks { line = without t locks.line })) s else s)
-tail_at limits t s true b runs here well = well_turn_end limits t s (runs_if t s.running runs) well
+tail_at limits t s true b runs here well = well_turn_end limits t s (runner_is t s.running runs) well
 tail_at limits t s false true runs here well =
     let inside : is_in t s.line ≡ true = sym (any_is_in t s.line) ∙ here in
     well_tail limits t (without t s.line) s.running s (lined_without t s.threads s.line s.running (lined_of limits s well)) (well.line_ready t inside) (without_own t s.line)
@@ -90,7 +87,7 @@ well_placing_tail limits t s well = tail_at limits t s (is_running t s.running) 
 head_at : (limits : Limits) (t : ℕ) (s : Part) (a b : Bool) → is_running t s.running ≡ a → list_any (λ u. u == t) s.line ≡ b → IsWell limits s
     → IsWell limits (if a then (let out : Part = with_locks (at_head t) s in record out { running = None }) else if b then with_locks (λ locks. at_head t (record locks { line = without t locks.line })) s else s)
 head_at limits t s true b runs here well =
-    let running : s.running ≡ Some t = runs_if t s.running runs in
+    let running : s.running ≡ Some t = runner_is t s.running runs in
     well_lined limits (t ∷ s.line) None s
     (lined_head t s.threads s.line None (well.running_ready t running) (well.running_out t running) (none-some t) (lined_stopped s.threads s.line s.running (lined_of limits s well))) (λ e. refl) well
 head_at limits t s false true runs here well =
@@ -154,4 +151,4 @@ running_at limits cost t thread s false runs well = well
 pub well_interval : (limits : Limits) (cost t : ℕ) (o : Option Thread) (s : Part) → IsWell limits s → IsWell limits (after_interval limits.interval cost t o s)
 well_interval limits cost t None s well = well
 well_interval limits cost t (Some thread) s well =
-    running_at limits cost t thread s (is_running t s.running && is_round_robin thread.policy) (λ e. runs_if t s.running (and_parts (is_running t s.running) (is_round_robin thread.policy) e).0) well
+    running_at limits cost t thread s (is_running t s.running && is_round_robin thread.policy) (λ e. runner_is t s.running (and_parts (is_running t s.running) (is_round_robin thread.policy) e).0) well

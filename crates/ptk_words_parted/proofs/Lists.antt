@@ -1,24 +1,20 @@
 -- A list of threads after a push or a removal, and the room that is left.
-use Rattle.std.proofs.Common.{◌≡◌, ℕ, ◌<◌, ◌≤◌, List, [], ◌∷◌, ◌++◌, length, Bool, true, false, cond, not, arith, ◌⊎◌, inl, inr}
+use Rattle.std.proofs.Common.{◌≡◌, ℕ, ◌<◌, ◌≤◌, List, [], ◌∷◌, ◌++◌, length, Bool, true, false, cond, not, arith, inl, inr}
 use Rattle.std.specs.Prelude.{nat_eq, filter, ◌==◌}
 use Rattle.std.specs.List.{IsDistinct}
 use Rattle.std.specs.Cmp.{nat_eq_equiv}
-use Rattle.std.proofs.lemmas.Bool.{eqb-true, or_left, or_right, or_cases, cases_Bool}
+use Rattle.std.proofs.lemmas.Bool.{or_left, or_right, or_cases, cases_Bool}
 use Rattle.std.proofs.lemmas.Map.Keys.{IsDistinct-cons, IsDistinct-push}
 use Rattle.std.proofs.lemmas.Map.Steps.{length-le_from_distinct_below}
 use Rattle.ptk_words.specs.Pools.{without, is_in}
-use Rattle.ptk_words.proofs.Lists.{in_push, distinct-filter, none_distinct, apart_from_out}
+use Rattle.ptk_words.proofs.Lists.{in_push, distinct-filter, none_distinct, apart_from_out, in_head}
 use Rattle.ptk_words_parted.specs.Lists.{IsLine}
-
-pub in_front : (q k : ℕ) (ks : List ℕ) → is_in q (k ∷ ks) ≡ true → (q ≡ k) ⊎ (is_in q ks ≡ true)
-in_front q k ks h =
-    elim (or_cases (nat_eq q k) (is_in q ks) h) as (λ _. (q ≡ k) ⊎ (is_in q ks ≡ true)) [ inl e ↦ inl (eqb-true q k e) | inr r ↦ inr r ]
 
 -- a number that is not in the list, put first
 pub line_front : (k : ℕ) (ks : List ℕ) → 0 < k → k ≤ 32 → is_in k ks ≡ false → IsLine ks → IsLine (k ∷ ks)
 line_front k ks pos small out line = record {
   distinct = IsDistinct-cons nat_eq k ks (apart_from_out k ks out) line.distinct;
-  numbers = λ q h. elim (in_front q k ks h) as (λ _. (0 < q) × (q ≤ 32)) [ inl e ↦ (omega arith, omega arith) | inr r ↦ line.numbers q r ];
+  numbers = λ q h. elim (in_head k q ks h) as (λ _. (0 < q) × (q ≤ 32)) [ inl e ↦ (omega arith, omega arith) | inr r ↦ line.numbers q r ];
 }
 
 -- a number that is not in the list, put last
@@ -56,7 +52,7 @@ few_distinct : (ks : List ℕ) → IsLine ks → length ks ≤ 32
 few_distinct ks line =
     let distinct : IsDistinct nat_eq (0 ∷ ks) = IsDistinct-cons nat_eq 0 ks (apart_from_out 0 ks (zero_out ks line)) line.distinct in
     let below : (q : ℕ) → is_in q (0 ∷ ks) ≡ true → q < 33 =
-    λ q h. elim (in_front q 0 ks h) as (λ _. q < 33) [ inl e ↦ omega arith | inr r ↦ (let small : q ≤ 32 = (line.numbers q r).1 in omega arith) ] in
+    λ q h. elim (in_head 0 q ks h) as (λ _. q < 33) [ inl e ↦ omega arith | inr r ↦ (let small : q ≤ 32 = (line.numbers q r).1 in omega arith) ] in
     let all : length (0 ∷ ks) ≤ 33 = length-le_from_distinct_below (0 ∷ ks) 33 distinct below in
     omega arith
 

@@ -2,14 +2,14 @@
 use Rattle.std.proofs.Common.{◌≡◌, ℕ, ◌+◌, ◌*◌, ◌/◌, ◌%◌, ◌<◌, ◌≤◌, max, true, List, [], filter, Option, Some, None, is_some, Any, All, MatchOption, refl, sym, subst, inl, inr, arith}
 use Rattle.std.specs.List.{flat_map}
 use Rattle.std.proofs.lemmas.Bool.{cases_order}
-use Rattle.std.proofs.lemmas.Option.{MatchOption-at_some}
+use Rattle.std.proofs.lemmas.Option.{MatchOption-at_none, MatchOption-at_some}
 use Rattle.std.proofs.Math.Nat.{mul-le-mul_right}
 use Rattle.ptk_words_windows.specs.declared.window.Window.{Window}
 use Rattle.ptk_words_windows.specs.Windows.{Stage, WindowPlan, Holds, end_of, windows_at, firsts_of, IsOwn, IsFirstOwn, IsOwnUntil, IsTable, IsPlan, IsInForce, windows_of, first_from, own_ticks}
 use Rattle.ptk_words_windows.proofs.Lists.{MatchOption-weaker, Any-nil, Any-weaker, Any-all, Any-filter, Any-filtered, Any-map, Any-mapped, Any-flat, Any-flattened, reduce-min}
 use Rattle.ptk_words_windows.proofs.Places.{Fits, first_holds, first_not_before, first_least, first_near}
 use Rattle.ptk_words_windows.proofs.InForce.{in_force, in_force_back, one_in_force, tick_from, from_tick, number_order}
-use Rattle.ptk_words_windows.proofs.OwnLaws.{all_fit, Any-of, Any-among, only_one, no_one, own_from, end_of_window}
+use Rattle.ptk_words_windows.proofs.OwnLaws.{all_fit, Any-of, Any-among, only_one, no_one, own_from, end_none, end_of_window}
 
 -- the test of an own tick
 own_true : (plan : WindowPlan) (p tick : ℕ) → IsOwn plan p tick → is_some (end_of plan p tick) ≡ true
@@ -139,3 +139,8 @@ pub next_near : (plan : WindowPlan) (p tick last n : ℕ) → IsPlan plan → Al
 next_near plan p tick last n is most next =
     let reached = MatchOption-at_some (found plan p tick ≡ []) (λ m. Any (λ k. k ≡ m) (found plan p tick) × All (λ k. m ≤ k) (found plan p tick)) n next (reduce-min (found plan p tick)) in
     near_by plan p tick last n is most (found_some plan p tick n reached.0).0
+
+-- where no own tick comes there is none
+pub quiet_for_ever : (plan : WindowPlan) (p tick : ℕ) → IsPlan plan → (own_ticks plan p).next_of tick ≡ None → (k : ℕ) → tick ≤ k → (own_ticks plan p).end_at k ≡ None
+quiet_for_ever plan p tick is none k from =
+    end_none plan p k (MatchOption-at_none ((n : ℕ) → tick ≤ n → ¬ IsOwn plan p n) (IsFirstOwn plan p tick) none (next_first plan p tick is) k from)
