@@ -12,4 +12,5 @@ pub mod Waits
 pub mod Robust
 pub mod Cancellations
 pub mod Refusals
+pub mod Conditions
 pub mod Words

@@ -8,7 +8,7 @@
 //!   `calls_leave_others`, `steps_leave_others` and `decisions_leave_others` (which calls act on another thread than
 //!   their caller), `calls_keep_callers`, `steps_keep_callers` and `steps_run_no_others` (behind a step its call is in
 //!   a7, and no other thread runs).
-//! - 64 worked rows that the definitions compute, refused calls and the order of their checks, and robust mutexes at
+//! - 66 worked rows that the definitions compute, refused calls and the order of their checks, and robust mutexes at
 //!   their owners' ends, among them.
 //!
 //! They hold of the machine of one partition as it is defined, whatever code carries it. `rows` computes small guests

@@ -13,6 +13,7 @@ ghost use Rattle.ptk_words_laws.specs.Rows.Waits.{FirstLock, BadNanosecondsOrder
 ghost use Rattle.ptk_words_laws.specs.Rows.Robust.{OwnerDied, UnrecoverableMutex, ConsistentRefusals, RecoveredLock, PlainOwnerDied, DeadlineOfADeadOwnersWaiter, HeirsBeforeJoiner, WaitOnDeadOwner, WaitOnLostMutex, CancelledHeir};
 ghost use Rattle.ptk_words_laws.specs.Rows.Cancellations.{AsyncCancelReady, CancelledWaiter, CancelledJoiner, DisableThenEnable, BadPointerWithRequest, SeventeenHandlers, DestructorLimit, DestructorRounds, ExitInDestructor};
 ghost use Rattle.ptk_words_laws.specs.Rows.Refusals.{CreateRefused, ThreadRefused, SmallCalls};
+ghost use Rattle.ptk_words_laws.specs.Rows.Conditions.{NewCondition, DestroyedCondition};
 
 /// The run of nine steps that prints `hi`.
 pub fn hello()
@@ -332,4 +333,14 @@ pub fn wait_on_lost_mutex()
 /// A cancelled condition waiter that gets a dead owner's mutex.
 pub fn cancelled_heir()
     ensures { CancelledHeir }
+{}
+
+/// New condition variables, whatever their words were, and creations that are refused.
+pub fn new_condition()
+    ensures { NewCondition }
+{}
+
+/// A condition variable that is destroyed, and destructions that are refused.
+pub fn destroyed_condition()
+    ensures { DestroyedCondition }
 {}
