@@ -3,7 +3,6 @@ use Rattle.std.proofs.Common.{◌≡◌, ℕ, zero, suc, ◌+◌, ◌*◌, ◌-�
 use Rattle.std.proofs.Common.{take, drop, ◌++◌}
 use Rattle.std.specs.Prelude.{slice_get, slice_set, slice_index_or, map, All}
 use Rattle.std.proofs.Math.Seq.{take-append_seam}
-use Rattle.std.proofs.lemmas.List.{length-set, length-map}
 use Rattle.std.proofs.lemmas.Option.{none-some, same_Some}
 use Rattle.ptk_words.specs.Names.{Tick}
 use Rattle.ptk_words_parted.specs.Parts.{part_of, filled}
@@ -243,6 +242,3 @@ kept_new slots queue items ns le h made laid end =
 pub view_new : (slots : ℕ) (queue : DeadlineTable) (items : List PartitionSlots) (ns : List ℕ) → queue ≡ record { slots = slots; pairs = [] } → items ≡ laid_from 0 ns → deadlines_by_partition items queue.pairs ≡ map (filled None) ns
 view_new slots queue items ns made laid =
     ap (λ (table : DeadlineTable). deadlines_by_partition items table.pairs) made ∙ ap (λ (ss : List PartitionSlots). deadlines_by_partition ss []) laid ∙ by-laid 0 ns
-
--- how many partitions there are after a call
-pub ruleset counts = (length-set, length-map)

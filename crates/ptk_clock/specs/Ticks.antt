@@ -4,7 +4,7 @@ use Rattle.std.specs.Int.{w64, cast_signed, div_ceil}
 use Rattle.ptk_words.specs.Names.{Word, Tick}
 use Rattle.ptk_words.specs.declared.TheConstants.{LAST_TICK}
 
--- the deadline of a time: the least tick that is not before it, 0 for negative times, and a tick that never comes for one past the last (own)
+-- the deadline of a time: the least tick that is not before it, 0 for negative times, and for a time past every run the tick after the last, which never comes (own)
 abbrev pub tick_of : ℤ → ℕ → Tick
 tick_of (negsuc n) nanoseconds = 0
 tick_of (pos seconds) nanoseconds = min (LAST_TICK + 1) (seconds * 1000000 + div_ceil nanoseconds 1000)

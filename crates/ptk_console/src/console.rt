@@ -81,10 +81,7 @@ impl PartitionConsole {
     pub fn next_arrival_tick(&self) -> Option<Tick>
         ensures { result ≡ option_map (λ a. a.tick) (slice_get self.now.console.coming 0) }
     {
-        match self.coming().first() {
-            Some(arrival) => Some(arrival.tick),
-            None => None,
-        }
+        Some(self.coming().first()?.tick)
     }
 
     /// Whether the next input byte comes at the tick or before.

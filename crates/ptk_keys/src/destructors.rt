@@ -79,10 +79,8 @@ fn call_in_next_round(
     if rounds.round >= DESTRUCTOR_ROUNDS {
         return None;
     }
-    match least_due(destructors, values, 0) {
-        Some(key) => Some(call_of(values, rounds.round + 1, key)),
-        None => None,
-    }
+    let key = least_due(destructors, values, 0)?;
+    Some(call_of(values, rounds.round + 1, key))
 }
 
 /// The call of a key's destructor, in a round.

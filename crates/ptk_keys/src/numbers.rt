@@ -111,10 +111,8 @@ pub(crate) fn first_free(destructors: &[Option<u32>]) -> Option<KeyNo>
     requires { length destructors.now ≤ 32 }
     ensures { result ≡ least_free destructors.now }
 {
-    match first_free_place(destructors) {
-        Some(i) => Some(KeyNo::new(i as u32 + 1)),
-        None => None,
-    }
+    let place = first_free_place(destructors)?;
+    Some(KeyNo::new(place as u32 + 1))
 }
 
 /// The place of the first free number, from 0.

@@ -1,14 +1,11 @@
 -- The steps of the walk that stops early, and of its count.
-use Rattle.std.proofs.Common.{◌≡◌, ℕ, zero, suc, ◌-◌, ◌<◌, List, get_or, max, false, refl, arith}
-use Rattle.std.specs.Prelude.{nat_le, Option, Some}
-use Rattle.std.proofs.lemmas.Bool.Decides.{nat_tests}
+use Rattle.std.proofs.Common.{◌≡◌, ℕ, zero, suc, ◌-◌, ◌<◌, List, get_or, max, refl, arith}
+use Rattle.std.specs.Prelude.{Option, Some}
+use Rattle.std.proofs.lemmas.Bool.{lt-leb}
 use Rattle.ptk_words.specs.Pools.{pool_set}
 use Rattle.ptk_threads.specs.Table.{stored_of}
 use Rattle.ptk_mutex_priorities.specs.Raised.{raised, risen}
 use Rattle.ptk_mutex.specs.Visits.{reads}
-
-le_false : (a b : ℕ) → b < a → nat_le a b ≡ false
-le_false a b h = grind (arith, nat_tests)
 
 -- a lower priority that is replaced is raised
 raised-set : (priority u : ℕ) (stored new : List ℕ) → stored_of stored u < priority → new ≡ pool_set stored u priority → new ≡ raised priority u stored
@@ -23,11 +20,11 @@ risen_some next priority zero u v stored mid new lt h n f e = absurd (omega (ari
 risen_some next priority (suc fuel) u v stored mid new lt h n f e =
     let same : suc fuel - 1 ≡ fuel = omega arith in
     let here : mid ≡ raised priority u stored = raised-set priority u stored mid h f in
-    rw (le_false priority (stored_of stored u) h, n) (rw (same, here) at e)
+    rw (lt-leb priority (stored_of stored u) h, n) (rw (same, here) at e)
 
 pub reads_some : (next : ℕ → Option ℕ) (priority fuel u v : ℕ) (stored mid : List ℕ) → 0 < fuel → stored_of stored u < priority → next u ≡ Some v → mid ≡ pool_set stored u priority → reads next priority fuel u stored ≡ suc (reads next priority (fuel - 1) v mid)
 reads_some next priority zero u v stored mid lt h n f = absurd (omega (arith, lt))
 reads_some next priority (suc fuel) u v stored mid lt h n f =
     let same : suc fuel - 1 ≡ fuel = omega arith in
     let here : mid ≡ raised priority u stored = raised-set priority u stored mid h f in
-    rw (le_false priority (stored_of stored u) h, n, same, here) refl
+    rw (lt-leb priority (stored_of stored u) h, n, same, here) refl

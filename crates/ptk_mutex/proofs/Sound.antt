@@ -289,14 +289,3 @@ sound_blank counts limits others a of_limits of_others of_table of_lines of_mute
           let within : p < length counts = rw (← length-map counts (filled {X = Option Thread} None)) lt in
           synced_blank p counts limits others (replicate (length counts) []) within (rw of_limits within) (rw of_others within) (rw length-replicate within);
     })
-
--- ---- what a caller needs
-
--- of a sound roster each call finds what it asks of its partition
-pub sound_ready : (p : ℕ) (a : Rostered) → IsSound a → p < length a.table.threads → AreReadyBy p a.table a.lines a.mutexes
-sound_ready p a sound lt = (sound.synced p lt).ready
-
-pub sound_synced : (p : ℕ) (a : Rostered) → IsSound a → p < length a.table.threads → AreSyncedBy p a.table a.lines a.mutexes a.conditions
-sound_synced p a sound lt = sound.synced p lt
-
-pub ruleset callers = (sound_ready, sound_synced, length-set)

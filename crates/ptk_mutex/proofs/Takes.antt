@@ -13,7 +13,7 @@ use Rattle.ptk_words.specs.declared.mutexes.Protocol.TheVariants.{NoProtocol, In
 use Rattle.ptk_words.specs.declared.mutexes.Owner.{Owner}
 use Rattle.ptk_words.specs.declared.mutexes.Owner.TheVariants.{Free, Abandoned, OwnedBy}
 use Rattle.ptk_words.proofs.Pools.{changed_own, changed_other, length-changed}
-use Rattle.ptk_words.proofs.Options.{zero_either_way}
+use Rattle.ptk_words.proofs.Options.{same_either_way}
 use Rattle.ptk_words_model.specs.State.{Mutex}
 use Rattle.ptk_words_model.specs.Chain.{greatest_leading}
 use Rattle.ptk_words_model.specs.Priority.{is_owner, ceiling_of, ceiling_for, inheritor, inheritor_of, awaited, assigned_of, next_in_chain, held_of, effective_priorities}
@@ -60,7 +60,7 @@ owner-is t (OwnedBy u) e = ap OwnedBy (eqb-true u t e)
 
 -- where it has no ceiling it gives none
 no_ceiling : (u : ℕ) (x : Mutex) → ceiling_of x.protocol ≡ 0 → ceiling_for u (option_map freed (Some x)) ≡ ceiling_for u (Some x)
-no_ceiling u x e = sym (ap (λ c. if is_owner u x.owner then c else 0) e ∙ zero_either_way (is_owner u x.owner))
+no_ceiling u x e = sym (ap (λ c. if is_owner u x.owner then c else 0) e ∙ same_either_way (is_owner u x.owner) 0)
 
 other_owner : (u t c : ℕ) (b : Bool) → (t == u) ≡ b → u ≢ t → (if t == u then c else 0) ≡ 0
 other_owner u t c true e ne = absurd (ne (sym (eqb-true t u e)))

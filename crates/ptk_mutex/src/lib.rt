@@ -19,7 +19,7 @@
 //! - `raise` and `rise_behind`, the walk along a thread's chain after a change that can only raise: it raises each
 //!   thread, stops at the first that is already at least as high, and leaves the effective priorities, on cycles too
 //!   (`stored`). The number of priorities that it reads is that of those that rose, or one more (`visited`), at most
-//!   one more than a partition has threads (`few`).
+//!   one more than a partition may have threads (`few`).
 //!
 //! What a call needs of its partition is `AreReady` of `specs/Tables`; one that may queue its caller also needs a
 //! caller that is no waiter (`IsNoWaiter`), since a thread has one link. A refused lock changes nothing; who is woken

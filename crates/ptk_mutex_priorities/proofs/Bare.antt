@@ -1,10 +1,9 @@
 -- What reads no waiters is the same of a mutex whatever its waiters are, and of a partition's mutexes without them.
-use Rattle.std.proofs.Common.{◌≡◌, ℕ, zero, suc, ◌+◌, Bool, true, false, not, ◌&&◌, ◌||◌, List, [], ◌∷◌, length, map, max, refl, ◌∙◌, ap}
+use Rattle.std.proofs.Common.{◌≡◌, ℕ, zero, suc, ◌+◌, not, ◌&&◌, ◌||◌, List, [], ◌∷◌, length, map, max, refl, ◌∙◌, ap}
 use Rattle.std.specs.Prelude.{fold, Option, Some, None, option_map, option_and_then, is_none, slice_get, position}
 use Rattle.std.specs.Option.{option_flatten}
 use Rattle.std.specs.List.{prefix_len, list_any}
 use Rattle.std.proofs.lemmas.List.{length-map}
-use Rattle.std.proofs.Math.Bool.{and-false}
 use Rattle.ptk_words.specs.Pools.{pool_get, least_free, numbers_of}
 use Rattle.ptk_words.specs.declared.threads.Thread.{Thread}
 use Rattle.ptk_words_model.specs.Chain.{greatest_leading}
@@ -77,17 +76,6 @@ inheritor_of-waiters w (Some m) = refl
 pub ceiling_for-waiters : (t : ℕ) (w : List ℕ) (x : Option Mutex) → ceiling_for t (with_waiters w x) ≡ ceiling_for t x
 ceiling_for-waiters t w None = refl
 ceiling_for-waiters t w (Some m) = refl
-
-both_true : (b : Bool) → (b && true) ≡ b
-both_true true = refl
-both_true false = refl
-
-alone : (raises sound owned once none : Bool) → (none && (raises && sound && owned && once && true)) ≡ (raises && sound && owned && once && none)
-alone true true true true none = both_true none
-alone true true true false none = and-false none
-alone true true false once none = and-false none
-alone true false owned once none = and-false none
-alone false sound owned once none = and-false none
 
 -- ---- a change
 

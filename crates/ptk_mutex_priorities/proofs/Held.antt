@@ -13,6 +13,7 @@ use Rattle.ptk_words.specs.declared.mutexes.Protocol.TheVariants.{NoProtocol, In
 use Rattle.ptk_words.specs.declared.mutexes.Owner.{Owner}
 use Rattle.ptk_words.specs.declared.mutexes.Owner.TheVariants.{Free, Abandoned, OwnedBy}
 use Rattle.ptk_words.proofs.Pools.{get_beyond}
+use Rattle.ptk_words.proofs.Options.{same_either_way}
 use Rattle.ptk_words_model.specs.State.{Mutex}
 use Rattle.ptk_words_model.specs.Priority.{assigned_of, is_owner, ceiling_of, ceiling_for, held_of}
 use Rattle.ptk_threads_slots.specs.declared.slot.Slot.{Slot}
@@ -88,13 +89,9 @@ pub protected_ceiling : (t u ceiling : ℕ) (x : Option Mutex) → protected_at 
 protected_ceiling t u ceiling None e = absurd (cc e)
 protected_ceiling t u ceiling (Some m) e = ceiling_of_owner t u ceiling m.protocol m.owner e
 
-either_same : (b : Bool) (x : ℕ) → (if b then x else x) ≡ x
-either_same true x = refl
-either_same false x = refl
-
 no_ceiling : (t : ℕ) (protocol : Protocol) (owner : Owner) → protected protocol owner ≡ None → (if is_owner t owner then ceiling_of protocol else 0) ≡ 0
-no_ceiling t NoProtocol owner e = either_same (is_owner t owner) 0
-no_ceiling t Inherit owner e = either_same (is_owner t owner) 0
+no_ceiling t NoProtocol owner e = same_either_way (is_owner t owner) 0
+no_ceiling t Inherit owner e = same_either_way (is_owner t owner) 0
 no_ceiling t (Protect c) Free e = refl
 no_ceiling t (Protect c) Abandoned e = refl
 no_ceiling t (Protect c) (OwnedBy v) e = absurd (cc e)

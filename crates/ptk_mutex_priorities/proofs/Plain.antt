@@ -1,9 +1,10 @@
 -- A mutex that is neither INHERIT nor PROTECT raises nobody, whoever owns it.
 use Rattle.std.proofs.Common.{◌≡◌, ℕ, Bool, true, false, not, ◌&&◌, length, refl, ◌∙◌, ap}
-use Rattle.std.specs.Prelude.{◌==◌, Option, Some, None, option_map, if◌then◌else◌}
+use Rattle.std.specs.Prelude.{◌==◌, Option, Some, None, option_map}
 use Rattle.ptk_words.specs.declared.mutexes.Protocol.{Protocol}
 use Rattle.ptk_words.specs.declared.mutexes.Protocol.TheVariants.{NoProtocol, Inherit, Protect}
 use Rattle.ptk_words.specs.declared.mutexes.Owner.{Owner}
+use Rattle.ptk_words.proofs.Options.{zero_either_way}
 use Rattle.ptk_words_model.specs.State.{Mutex}
 use Rattle.ptk_words_model.specs.Priority.{is_owner, ceiling_of, ceiling_for, inheritor, inheritor_of}
 use Rattle.ptk_words_model.specs.Mutex.{is_free, is_raising}
@@ -19,10 +20,6 @@ ceiling_by NoProtocol e = refl
 ceiling_by Inherit e = absurd (cc e)
 ceiling_by (Protect ceiling) e = absurd (cc e)
 
-either_zero : (b : Bool) (n : ℕ) → n ≡ 0 → (if b then n else 0) ≡ 0
-either_zero true n e = e
-either_zero false n e = refl
-
 -- its waiters raise nobody
 pub plain_inherits : (x : Option Mutex) → is_raising_at x ≡ false → inheritor_of x ≡ None
 plain_inherits None e = refl
@@ -31,7 +28,7 @@ plain_inherits (Some m) e = inherits_by m.protocol m.owner e
 -- nor does it give its owner a ceiling
 pub plain_ceiling : (u : ℕ) (x : Option Mutex) → is_raising_at x ≡ false → ceiling_for u x ≡ 0
 plain_ceiling u None e = refl
-plain_ceiling u (Some m) e = either_zero (is_owner u m.owner) (ceiling_of m.protocol) (ceiling_by m.protocol e)
+plain_ceiling u (Some m) e = zero_either_way (is_owner u m.owner) (ceiling_of m.protocol) (ceiling_by m.protocol e)
 
 -- the protocol that stays
 pub raising-kept : (f : Mutex → Mutex) (x : Option Mutex) → ((m : Mutex) → (f m).protocol ≡ m.protocol) → is_raising_at (option_map f x) ≡ is_raising_at x

@@ -2,12 +2,12 @@
 use Rattle.std.proofs.Common.{◌≡◌, ℕ, suc, ◌-◌, ◌<◌, ◌≤◌, List, [], ◌∷◌, Bool, true, refl, sym, ◌∙◌, ap, subst, arith, max, inl, inr}
 use Rattle.std.specs.Prelude.{ℤ, find, filter, fold, ◌==◌, Some, None}
 use Rattle.std.proofs.lemmas.Bool.{cases_Bool}
-use Rattle.ptk_words.proofs.Lists.{in_here}
+use Rattle.ptk_words.proofs.Lists.{in_here, in_head}
 use Rattle.ptk_words_parted.specs.Parts.{part_of}
 use Rattle.ptk_words.specs.Pools.{is_in, greatest, first_of_greatest}
 use Rattle.ptk_threads.specs.Table.{stored_of}
 use Rattle.ptk_threads_slots.specs.Links.{first_or}
-use Rattle.ptk_threads_slots.proofs.Along.{in_front, in_later, le_or_gt}
+use Rattle.ptk_threads_slots.proofs.Along.{in_later, le_or_gt}
 use Rattle.ptk_ready.specs.declared.stamps.StampRange.{StampRange}
 use Rattle.ptk_ready.specs.Bits.{has_bit, IsGreatestBit}
 use Rattle.ptk_ready.specs.Entries.{has_any}
@@ -23,7 +23,7 @@ at_least rank a (k ∷ ks) = let rest = at_least rank (max a (rank k)) ks in ome
 
 each_least : (rank : ℕ → ℕ) (a b : ℕ) (ks : List ℕ) → is_in b ks ≡ true → rank b ≤ fold (λ most k. max most (rank k)) a ks
 each_least rank a b [] h = absurd (cc)
-each_least rank a b (k ∷ ks) h = elim (in_front b k ks h) as (λ _. rank b ≤ fold (λ most k. max most (rank k)) a (k ∷ ks)) [
+each_least rank a b (k ∷ ks) h = elim (in_head k b ks h) as (λ _. rank b ≤ fold (λ most k. max most (rank k)) a (k ∷ ks)) [
   | inl e ↦ (let rest = at_least rank (max a (rank k)) ks in let same : rank b ≡ rank k = ap rank e in omega (arith, rest, same))
   | inr r ↦ each_least rank (max a (rank k)) b ks r
 ]

@@ -5,13 +5,13 @@ use Rattle.std.proofs.Math.ListN.{set}
 use Rattle.std.proofs.lemmas.Bool.{cases_eq, cases_Bool, and_parts, and_from, eq-eqb, ne_eqb}
 use Rattle.std.proofs.lemmas.List.{get_or-set_same, get_or-set_other, length-map}
 use Rattle.ptk_words.specs.Pools.{is_in, without}
-use Rattle.ptk_words.proofs.Lists.{in_here}
+use Rattle.ptk_words.proofs.Lists.{in_here, in_head, out_of}
 use Rattle.ptk_words_parted.specs.Parts.{part_of}
 use Rattle.ptk_threads.specs.Table.{stored_of}
 use Rattle.ptk_threads_slots.specs.declared.link.Link.{Link}
 use Rattle.ptk_threads_slots.specs.declared.link.Ends.{Ends}
 use Rattle.ptk_threads_slots.specs.Links.{mark_of, queue_at, queue_from, queues, AreQueues}
-use Rattle.ptk_threads_slots.proofs.Along.{in_front, in_later, along_marked}
+use Rattle.ptk_threads_slots.proofs.Along.{in_later, along_marked}
 use Rattle.ptk_threads_slots.proofs.Lists.{list_at}
 use Rattle.ptk_ready.specs.declared.stamps.StampRange.{StampRange}
 use Rattle.ptk_ready.specs.Bits.{has_bit, IsBitChanged}
@@ -111,11 +111,11 @@ filter_placed stamp p k xs does ne order =
     (order_kept stamp p (placed stamp k xs) (order_placed stamp k xs ne order))
     (order_placed stamp k (filter p xs) ne_kept (order_kept stamp p xs order))
     (λ j inside. (let parts = and_parts (p j) (is_in j (placed stamp k xs)) (sym (in_kept p j (placed stamp k xs)) ∙ inside) in
-    in_placed stamp j k (filter p xs) ∙ elim (in_front j k xs (sym (in_placed stamp j k xs) ∙ parts.1)) as (λ _. is_in j (k ∷ filter p xs) ≡ true) [
+    in_placed stamp j k (filter p xs) ∙ elim (in_head k j xs (sym (in_placed stamp j k xs) ∙ parts.1)) as (λ _. is_in j (k ∷ filter p xs) ≡ true) [
       | inl e ↦ subst (λ z. is_in z (k ∷ filter p xs) ≡ true) (sym e) (in_here k (filter p xs))
       | inr r ↦ in_later j k (filter p xs) (in_kept p j xs ∙ and_from (p j) (is_in j xs) parts.0 r)
     ]))
-    (λ j inside. elim (in_front j k (filter p xs) (sym (in_placed stamp j k (filter p xs)) ∙ inside)) as (λ _. is_in j (filter p (placed stamp k xs)) ≡ true) [
+    (λ j inside. elim (in_head k j (filter p xs) (sym (in_placed stamp j k (filter p xs)) ∙ inside)) as (λ _. is_in j (filter p (placed stamp k xs)) ≡ true) [
       | inl e ↦ subst (λ z. is_in z (filter p (placed stamp k xs)) ≡ true) (sym e) (in_kept p k (placed stamp k xs) ∙ and_from (p k) (is_in k (placed stamp k xs)) does (in_placed stamp k k xs ∙ in_here k xs))
       | inr r ↦ (let parts = and_parts (p j) (is_in j xs) (sym (in_kept p j xs) ∙ r) in
           in_kept p j (placed stamp k xs) ∙ and_from (p j) (is_in j (placed stamp k xs)) parts.0 (in_placed stamp j k xs ∙ in_later j k xs parts.1))
@@ -137,14 +137,11 @@ pub record IsComing (range : StampRange) (stored after : List ℕ) (stamps anew 
   pub apart : (j : ℕ) → is_in j xs ≡ true → stamp_of anew k ≢ stamp_of anew j
   pub within : IsInRange range (stamp_of anew k)
 
-pub member_apart : (k j : ℕ) (xs : List ℕ) → is_in k xs ≡ false → is_in j xs ≡ true → j ≢ k
-member_apart k j xs out inside = λ e. (let there : is_in k xs ≡ true = subst (λ z. is_in z xs ≡ true) e inside in absurd (cc))
-
 coming_order : (range : StampRange) (stored after : List ℕ) (stamps anew : List ℤ) (xs : List ℕ) (k i : ℕ) → IsComing range stored after stamps anew xs k i → IsInOrder (stamp_of stamps) xs → IsInOrder (stamp_of anew) xs
 coming_order range stored after stamps anew xs k i coming order =
     order_same (stamp_of stamps) (stamp_of anew) xs
-    (λ a b h g less. (let one = coming.others a (member_apart k a xs coming.out h) in
-    let two = coming.others b (member_apart k b xs coming.out g) in
+    (λ a b h g less. (let one = coming.others a (out_of a k xs coming.out h) in
+    let two = coming.others b (out_of b k xs coming.out g) in
     rw (one, two) less)) order
 
 -- the threads of a priority, once k has come
@@ -154,14 +151,14 @@ coming_line range stored after stamps anew xs k i coming order =
     filter_placed (stamp_of anew) (λ j. stored_of after j == suc i) k xs (eq-eqb (stored_of after k) (suc i) coming.level) coming.apart order
     ∙ ap (placed (stamp_of anew) k)
     (filter_agree (λ j. stored_of after j == suc i) (λ j. stored_of stored j == suc i) xs
-    (λ j inside. ap (λ n. n == suc i) (coming.levels j (member_apart k j xs coming.out inside))))
+    (λ j inside. ap (λ n. n == suc i) (coming.levels j (out_of j k xs coming.out inside))))
 
 coming_other : (range : StampRange) (stored after : List ℕ) (stamps anew : List ℤ) (xs : List ℕ) (k i n : ℕ) → IsComing range stored after stamps anew xs k i → suc i ≢ n
     → of_priority after n (placed (stamp_of anew) k xs) ≡ of_priority stored n xs
 coming_other range stored after stamps anew xs k i n coming ne =
     filter_placed_out (stamp_of anew) (λ j. stored_of after j == n) k xs (ne_eqb (stored_of after k) n (λ e. ne (sym coming.level ∙ e)))
     ∙ filter_agree (λ j. stored_of after j == n) (λ j. stored_of stored j == n) xs
-    (λ j inside. ap (λ m. m == n) (coming.levels j (member_apart k j xs coming.out inside)))
+    (λ j inside. ap (λ m. m == n) (coming.levels j (out_of j k xs coming.out inside)))
 
 pub came : (limit : ℕ) (range : StampRange) (links new : List Link) (ends late : List Ends) (stored after : List ℕ) (stamps anew : List ℤ) (bitmap bits : ℕ) (xs : List ℕ) (k i : ℕ)
     → IsKept limit range links ends stored stamps bitmap xs → IsComing range stored after stamps anew xs k i → length ends ≡ 128 → AreQueues new late
@@ -174,13 +171,13 @@ came limit range links new ends late stored after stamps anew bitmap bits xs k i
     let own : queue_at new late i ≡ placed (stamp_of anew) k (queue_at links ends i) =
     queue_set links new ends late i (placed (stamp_of anew) k (part_of (queues links ends) i)) lt lists ∙ ap (placed (stamp_of anew) k) (list_at links ends i) in
     let other : (j : ℕ) → j ≢ i → queue_at new late j ≡ queue_at links ends j = λ j ne. queue_other links new ends late i j (placed (stamp_of anew) k (part_of (queues links ends) i)) ne lists in
-    let member : (q : ℕ) → is_in q (placed (stamp_of anew) k xs) ≡ true → (q ≡ k) ⊎ (is_in q xs ≡ true) = λ q inside. in_front q k xs (sym (in_placed (stamp_of anew) q k xs) ∙ inside) in
+    let member : (q : ℕ) → is_in q (placed (stamp_of anew) k xs) ≡ true → (q ≡ k) ⊎ (is_in q xs ≡ true) = λ q inside. in_head k q xs (sym (in_placed (stamp_of anew) q k xs) ∙ inside) in
     record {
       queues = sound;
       order = order_placed (stamp_of anew) k xs coming.apart order;
       levels = λ q inside. elim (member q inside) as (λ _. (0 < stored_of after q) × (stored_of after q ≤ 32)) [
         | inl e ↦ (let level : stored_of after q ≡ suc i = ap (stored_of after) e ∙ coming.level in (omega (arith, level), omega (arith, level, low)))
-        | inr r ↦ rw (coming.levels q (member_apart k q xs coming.out r)) (kept.levels q r)
+        | inr r ↦ rw (coming.levels q (out_of q k xs coming.out r)) (kept.levels q r)
       ];
       lines = λ j within. elim (cases_eq j i) as (λ _. queue_at new late j ≡ of_priority after (suc j) (placed (stamp_of anew) k xs)) [
         | inl e ↦ rw e (own ∙ (ap (placed (stamp_of anew) k) (kept.lines i low) ∙ sym (coming_line range stored after stamps anew xs k i coming order)))
@@ -192,7 +189,7 @@ came limit range links new ends late stored after stamps anew bitmap bits xs k i
       ];
       within = λ q inside. elim (member q inside) as (λ _. IsInRange range (stamp_of anew q)) [
         | inl e ↦ subst (λ z. IsInRange range (stamp_of anew z)) (sym e) coming.within
-        | inr r ↦ rw (coming.others q (member_apart k q xs coming.out r)) (kept.within q r)
+        | inr r ↦ rw (coming.others q (out_of q k xs coming.out r)) (kept.within q r)
       ];
       limits = kept.limits;
     }

@@ -6,13 +6,13 @@ use Rattle.std.proofs.lemmas.Bool.Decides.{nat_tests}
 use Rattle.std.proofs.lemmas.List.{get_or_past, get_or-set_same, get_or-set_other}
 use Rattle.ptk_words.specs.Pools.{is_in, without, pool_set}
 use Rattle.ptk_words.proofs.Options.{none_if_never_some}
-use Rattle.ptk_words.proofs.Lists.{in_here}
+use Rattle.ptk_words.proofs.Lists.{in_here, in_head, out_of}
 use Rattle.ptk_words_parted.specs.Parts.{part_of}
 use Rattle.ptk_threads.specs.Table.{stored_of}
 use Rattle.ptk_threads_slots.specs.declared.link.Link.{Link}
 use Rattle.ptk_threads_slots.specs.declared.link.Ends.{Ends}
 use Rattle.ptk_threads_slots.specs.Links.{mark_of, first_or, queue_at, queues, AreQueues}
-use Rattle.ptk_threads_slots.proofs.Along.{in_front, in_later, not_true, le_or_gt, along_marked}
+use Rattle.ptk_threads_slots.proofs.Along.{in_later, not_true, le_or_gt, along_marked}
 use Rattle.ptk_threads_slots.proofs.Lists.{list_at}
 use Rattle.std.proofs.lemmas.Int.{ints}
 use Rattle.ptk_ready.specs.declared.stamps.StampRange.{StampRange}
@@ -23,7 +23,7 @@ use Rattle.ptk_ready.proofs.Ready.{in_entries, marked_ready}
 use Rattle.ptk_ready.proofs.Orders.{IsInOrder, no_less, less_test, test_less, in_placed, in_kept, order_kept, order_placed, order_apart, same_list}
 use Rattle.std.proofs.lemmas.Bool.{cases_eq, eq-eqb, ne_eqb}
 use Rattle.ptk_ready.specs.Laws.{in_priority}
-use Rattle.ptk_ready.proofs.Kept.{IsKept, IsComing, sound_kept, kept_sound, kept_entries, queue_other, member_apart, in_without, came}
+use Rattle.ptk_ready.proofs.Kept.{IsKept, IsComing, sound_kept, kept_sound, kept_entries, queue_other, in_without, came}
 
 -- the queues of waiters, which come after those of ready threads, have the same lists
 abbrev pub KeepsWaiters : List Link → List Ends → List Link → List Ends → Type 0
@@ -68,7 +68,7 @@ placed_back stamp k xs order inside =
     let ne : (j : ℕ) → is_in j (without k xs) ≡ true → stamp k ≢ stamp j =
     λ j there e. out_without k xs (subst (λ z. is_in z (without k xs) ≡ true) (sym (order_apart stamp xs order k j inside (in_without j k xs there) e)) there) in
     same_list stamp (placed stamp k (without k xs)) xs (order_placed stamp k (without k xs) ne rest_order) order
-    (λ j there. elim (in_front j k (without k xs) (sym (in_placed stamp j k (without k xs)) ∙ there)) as (λ _. is_in j xs ≡ true) [
+    (λ j there. elim (in_head k j (without k xs) (sym (in_placed stamp j k (without k xs)) ∙ there)) as (λ _. is_in j xs ≡ true) [
       | inl e ↦ subst (λ z. is_in z xs ≡ true) (sym e) inside
       | inr r ↦ in_without j k xs r
     ])
@@ -168,7 +168,7 @@ coming_new range links stored stamps anew stamp (suc n) i free some small long m
       levels = λ j ne. refl;
       level = level;
       apart = λ j inside e. apart j (sym (in_entries links stamps j) ∙ inside)
-          (sym own ∙ (e ∙ others j (member_apart (suc n) j (entries links stamps) out inside)));
+          (sym own ∙ (e ∙ others j (out_of j (suc n) (entries links stamps) out inside)));
       within = rw own within;
     }
 
@@ -220,7 +220,7 @@ pushed_tail limit was range links new ends late stored stamps mid anew bitmap bi
     coming_new range links stored mid anew stamp k i free some small long made level low (λ j ready e. no_less stamp (subst (λ z. z <ℤ stamp) (sym e) (last j ready))) within in
     let own = stamp_own mid anew stamp k some small long made in
     let after : (j : ℕ) → is_in j (entries links mid) ≡ true → stamp_of anew j <ℤ stamp_of anew k =
-    λ j inside. rw (coming.others j (member_apart k j (entries links mid) coming.out inside), own) (last j (sym (in_entries links mid j) ∙ inside)) in
+    λ j inside. rw (coming.others j (out_of j k (entries links mid) coming.out inside), own) (last j (sym (in_entries links mid j) ∙ inside)) in
     pushed limit was range links new ends late stored stamps mid anew bitmap bits k i (λ ks. ks ++ k ∷ []) sound are line coming
     (λ ks among. placed_last (stamp_of anew) k ks (λ j inside. after j (among j inside))) wide queued lists bit
 
@@ -235,7 +235,7 @@ pushed_head limit was range links new ends late stored stamps mid anew bitmap bi
     coming_new range links stored mid anew stamp k i free some small long made level low (λ j ready e. no_less stamp (subst (λ z. stamp <ℤ z) (sym e) (first j ready))) within in
     let own = stamp_own mid anew stamp k some small long made in
     let after : (j : ℕ) → is_in j (entries links mid) ≡ true → stamp_of anew k <ℤ stamp_of anew j =
-    λ j inside. rw (coming.others j (member_apart k j (entries links mid) coming.out inside), own) (first j (sym (in_entries links mid j) ∙ inside)) in
+    λ j inside. rw (coming.others j (out_of j k (entries links mid) coming.out inside), own) (first j (sym (in_entries links mid j) ∙ inside)) in
     pushed limit was range links new ends late stored stamps mid anew bitmap bits k i (λ ks. k ∷ ks) sound are line coming
     (λ ks among. placed_first (stamp_of anew) k ks (λ j inside. after j (among j inside))) wide queued lists bit
 

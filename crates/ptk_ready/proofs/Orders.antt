@@ -6,8 +6,8 @@ use Rattle.std.proofs.lemmas.Bool.{eqb-true, cases_Bool, and_parts}
 use Rattle.std.proofs.lemmas.Int.{ints}
 use Rattle.std.proofs.lemmas.Map.Keys.{IsDistinct-tail}
 use Rattle.ptk_words.specs.Pools.{is_in}
-use Rattle.ptk_words.proofs.Lists.{in_here, head_out}
-use Rattle.ptk_threads_slots.proofs.Along.{in_front, in_later}
+use Rattle.ptk_words.proofs.Lists.{in_here, head_out, in_head}
+use Rattle.ptk_threads_slots.proofs.Along.{in_later}
 use Rattle.ptk_ready.specs.Orders.{placed, in_order}
 
 -- ---- tests
@@ -93,12 +93,12 @@ order_placed stamp k [] ne h = (λ j inside. absurd (cc), tt)
 order_placed stamp k (j ∷ ks) ne h = elim (cases_Bool (int_lt (stamp k) (stamp j))) as (λ _. IsInOrder stamp (placed stamp k (j ∷ ks))) [
   | inl does ↦ (let less : stamp k <ℤ stamp j = less_test (stamp k) (stamp j) does in
       rw does (
-        λ i inside. elim (in_front i j ks inside) as (λ _. stamp k <ℤ stamp i) [ inl e ↦ rw e less | inr r ↦ (let later = h.0 i r in omega (arith, ints)) ],
+        λ i inside. elim (in_head j i ks inside) as (λ _. stamp k <ℤ stamp i) [ inl e ↦ rw e less | inr r ↦ (let later = h.0 i r in omega (arith, ints)) ],
         h,
       ))
   | inr fails ↦ (let less : stamp j <ℤ stamp k = other_less (stamp k) (stamp j) fails (ne j (in_here j ks)) in
       rw fails (
-        λ i inside. elim (in_front i k ks (sym (in_placed stamp i k ks) ∙ inside)) as (λ _. stamp j <ℤ stamp i) [ inl e ↦ rw e less | inr r ↦ h.0 i r ],
+        λ i inside. elim (in_head k i ks (sym (in_placed stamp i k ks) ∙ inside)) as (λ _. stamp j <ℤ stamp i) [ inl e ↦ rw e less | inr r ↦ h.0 i r ],
         order_placed stamp k ks (λ i inside. ne i (in_later i j ks inside)) h.1,
       ))
 ]
@@ -120,18 +120,18 @@ same_list stamp [] [] h g to from = refl
 same_list stamp [] (y ∷ ys) h g to from = (let none = from y (in_here y ys) in absurd (cc))
 same_list stamp (x ∷ xs) [] h g to from = (let none = to x (in_here x xs) in absurd (cc))
 same_list stamp (x ∷ xs) (y ∷ ys) h g to from =
-    let same : x ≡ y = elim (in_front x y ys (to x (in_here x xs))) as (λ _. x ≡ y) [
+    let same : x ≡ y = elim (in_head y x ys (to x (in_here x xs))) as (λ _. x ≡ y) [
       | inl e ↦ e
-      | inr r ↦ elim (in_front y x xs (from y (in_here y ys))) as (λ _. x ≡ y) [
+      | inr r ↦ elim (in_head x y xs (from y (in_here y ys))) as (λ _. x ≡ y) [
         | inl e ↦ sym e
         | inr s ↦ (let one = g.0 x r in let other = h.0 y s in absurd (omega (arith, ints)))
       ]
     ] in
-    let to_rest : (k : ℕ) → is_in k xs ≡ true → is_in k ys ≡ true = λ k inside. elim (in_front k y ys (to k (in_later k x xs inside))) as (λ _. is_in k ys ≡ true) [
+    let to_rest : (k : ℕ) → is_in k xs ≡ true → is_in k ys ≡ true = λ k inside. elim (in_head y k ys (to k (in_later k x xs inside))) as (λ _. is_in k ys ≡ true) [
       | inl e ↦ (let less : stamp x <ℤ stamp k = h.0 k inside in absurd (no_less (stamp x) (subst (λ (j : ℕ). stamp x <ℤ stamp j) (e ∙ sym same) less)))
       | inr r ↦ r
     ] in
-    let from_rest : (k : ℕ) → is_in k ys ≡ true → is_in k xs ≡ true = λ k inside. elim (in_front k x xs (from k (in_later k y ys inside))) as (λ _. is_in k xs ≡ true) [
+    let from_rest : (k : ℕ) → is_in k ys ≡ true → is_in k xs ≡ true = λ k inside. elim (in_head x k xs (from k (in_later k y ys inside))) as (λ _. is_in k xs ≡ true) [
       | inl e ↦ (let less : stamp y <ℤ stamp k = g.0 k inside in absurd (no_less (stamp y) (subst (λ (j : ℕ). stamp y <ℤ stamp j) (e ∙ same) less)))
       | inr r ↦ r
     ] in
@@ -140,12 +140,12 @@ same_list stamp (x ∷ xs) (y ∷ ys) h g to from =
 -- numbers of a list in order have stamps of their own
 pub order_apart : (stamp : ℕ → ℤ) (ks : List ℕ) → IsInOrder stamp ks → (i j : ℕ) → is_in i ks ≡ true → is_in j ks ≡ true → stamp i ≡ stamp j → i ≡ j
 order_apart stamp [] h i j a b e = absurd (cc)
-order_apart stamp (k ∷ ks) h i j a b e = elim (in_front i k ks a) as (λ _. i ≡ j) [
-  | inl first ↦ elim (in_front j k ks b) as (λ _. i ≡ j) [
+order_apart stamp (k ∷ ks) h i j a b e = elim (in_head k i ks a) as (λ _. i ≡ j) [
+  | inl first ↦ elim (in_head k j ks b) as (λ _. i ≡ j) [
     | inl second ↦ first ∙ sym second
     | inr later ↦ (let less : stamp k <ℤ stamp j = h.0 j later in let same : stamp j ≡ stamp k = sym e ∙ ap stamp first in absurd (no_less (stamp k) (subst (λ (z : ℤ). stamp k <ℤ z) same less)))
   ]
-  | inr rest ↦ elim (in_front j k ks b) as (λ _. i ≡ j) [
+  | inr rest ↦ elim (in_head k j ks b) as (λ _. i ≡ j) [
     | inl second ↦ (let less : stamp k <ℤ stamp i = h.0 i rest in let same : stamp i ≡ stamp k = e ∙ ap stamp second in absurd (no_less (stamp k) (subst (λ (z : ℤ). stamp k <ℤ z) same less)))
     | inr later ↦ order_apart stamp ks h.1 i j rest later e
   ]

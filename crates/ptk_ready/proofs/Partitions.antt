@@ -8,6 +8,7 @@ use Rattle.std.proofs.lemmas.List.{get_or-set_same, get_or-set_other, get_or_rea
 use Rattle.ptk_words.specs.Pools.{is_in, without, pool_get, pool_set}
 use Rattle.ptk_words.specs.declared.threads.Thread.{Thread}
 use Rattle.ptk_words.proofs.Pools.{used_at}
+use Rattle.ptk_words.proofs.Lists.{out_of}
 use Rattle.ptk_words_parted.specs.Parts.{part_of}
 use Rattle.ptk_threads.specs.Table.{ThreadTable, thread_in, stored_of, with_stored, with_queues}
 use Rattle.ptk_threads.specs.Queues.{IsUnqueued, with_none, with_last, with_out}
@@ -21,7 +22,6 @@ use Rattle.ptk_ready.specs.Queues.{ready_queues, waiters_of, AreUnused}
 use Rattle.ptk_ready.specs.declared.entries.LinkedEntries.{LinkedEntries}
 use Rattle.ptk_ready.specs.Lines.{line_of, IsFiled}
 use Rattle.ptk_ready.proofs.Lists.{none_line}
-use Rattle.ptk_ready.proofs.Kept.{member_apart}
 use Rattle.ptk_ready.proofs.Moves.{out_without, stored_other}
 use Rattle.ptk_ready.proofs.Calls.{member_within, last_take}
 use Rattle.ptk_ready.specs.Partitions.{entries_at, lines_by, AreFiled}
@@ -124,7 +124,7 @@ pub priority_out : (limit : ℕ) (line : List (LinkedEntries limit)) (table : Th
 priority_out limit line table p k priority filed out =
     filed_same limit line table (with_stored p k priority table)
     (λ q j inside. elim (cases_eq q p) as (λ _. stored_of (part_of (with_stored p k priority table).stored q) j ≡ stored_of (part_of table.stored q) j) [
-      | inl e ↦ (let apart : j ≢ k = member_apart k j (part_of (lines_by line table.queues) p) out (subst (λ z. is_in j (part_of (lines_by line table.queues) z) ≡ true) e inside) in
+      | inl e ↦ (let apart : j ≢ k = out_of j k (part_of (lines_by line table.queues) p) out (subst (λ z. is_in j (part_of (lines_by line table.queues) z) ≡ true) e inside) in
           subst (λ z. stored_of (part_of (with_stored p k priority table).stored z) j ≡ stored_of (part_of table.stored z) j) (sym e)
           (ap (λ s. stored_of s j) (stored_here table.stored p k priority) ∙ stored_other (part_of table.stored p) k priority j apart))
       | inr ne ↦ ap (λ s. stored_of s j) (get_or-set_other table.stored p q (pool_set (part_of table.stored p) k priority) [] ne)

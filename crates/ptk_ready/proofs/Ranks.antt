@@ -8,11 +8,12 @@ use Rattle.ptk_threads_slots.specs.Links.{links_of, own_link, no_link, place_of}
 use Rattle.ptk_ready.specs.Entries.{is_ready, is_ready_place, ready_of, stamp_of, entries, AreStamps}
 use Rattle.ptk_ready.specs.declared.stamps.StampRange.{StampRange}
 use Rattle.ptk_ready.specs.Stamps.{rank, renumbered}
-use Rattle.ptk_threads_slots.proofs.Along.{in_front, not_true, marked_within}
+use Rattle.ptk_threads_slots.proofs.Along.{not_true, marked_within}
 use Rattle.std.proofs.Math.ListN.{set}
 use Rattle.std.proofs.lemmas.Bool.{cases_eq, cases_Bool}
 use Rattle.std.proofs.lemmas.Int.{ints}
 use Rattle.std.proofs.lemmas.List.{get_or-map, get_or-set_same, get_or-set_other, length-map}
+use Rattle.ptk_words.proofs.Lists.{in_head}
 use Rattle.ptk_ready.proofs.Ready.{ready_mark, in_ready, in_entries, entries_order, entries_are}
 use Rattle.ptk_ready.proofs.Orders.{IsInOrder, no_less, less_test, test_less, order_same, order_apart}
 
@@ -59,7 +60,7 @@ count_within p q (k ∷ ks) h = let rest = count_within p q ks h in
 -- a number of the list passes q and not p
 count_less : (p q : ℕ → Bool) (ks : List ℕ) (b : ℕ) → ((k : ℕ) → p k ≡ true → q k ≡ true) → is_in b ks ≡ true → p b ≡ false → q b ≡ true → length (filter p ks) < length (filter q ks)
 count_less p q [] b h inside out within = absurd (cc)
-count_less p q (k ∷ ks) b h inside out within = elim (in_front b k ks inside) as (λ _. length (filter p (k ∷ ks)) < length (filter q (k ∷ ks))) [
+count_less p q (k ∷ ks) b h inside out within = elim (in_head k b ks inside) as (λ _. length (filter p (k ∷ ks)) < length (filter q (k ∷ ks))) [
   | inl e ↦ (let rest = count_within p q ks h in rw (ap p (sym e) ∙ out, ap q (sym e) ∙ within) (omega (arith, rest)))
   | inr r ↦ (let rest = count_less p q ks b h r out within in
       elim (cases_Bool (p k)) as (λ _. length (filter p (k ∷ ks)) < length (filter q (k ∷ ks))) [

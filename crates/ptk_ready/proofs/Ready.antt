@@ -7,10 +7,10 @@ use Rattle.std.proofs.lemmas.Bool.Decides.{nat_tests}
 use Rattle.std.proofs.lemmas.Map.Keys.{IsDistinct-push}
 use Rattle.std.proofs.lemmas.Bool.{and_parts}
 use Rattle.ptk_words.specs.Pools.{is_in, numbers_to}
-use Rattle.ptk_words.proofs.Lists.{distinct-filter, none_distinct, in_here}
+use Rattle.ptk_words.proofs.Lists.{distinct-filter, none_distinct, in_here, in_head}
 use Rattle.ptk_threads_slots.specs.declared.link.Link.{Link}
 use Rattle.ptk_threads_slots.specs.Links.{mark_of}
-use Rattle.ptk_threads_slots.proofs.Along.{in_front, in_left, in_right, in_parts, not_true, le_or_gt, marked_within}
+use Rattle.ptk_threads_slots.proofs.Along.{in_left, in_right, in_parts, not_true, le_or_gt, marked_within}
 use Rattle.ptk_ready.specs.declared.stamps.StampRange.{StampRange}
 use Rattle.ptk_ready.specs.Entries.{is_ready_place, is_ready, ready_of, stamp_of, entries, AreStamps}
 use Rattle.ptk_ready.proofs.Orders.{IsInOrder, same_test, in_sorted, in_kept, order_sorted, order_apart, same_list}
@@ -28,7 +28,7 @@ numbers_small : (n k : ℕ) → is_in k (numbers_to n) ≡ true → k ≤ n
 numbers_small zero k h = absurd (cc)
 numbers_small (suc n) k h = elim (in_parts k (numbers_to n) (suc n ∷ []) h) as (λ _. k ≤ suc n) [
   | inl l ↦ (let small = numbers_small n k l in omega arith)
-  | inr r ↦ elim (in_front k (suc n) [] r) as (λ _. k ≤ suc n) [ inl e ↦ omega arith | inr none ↦ absurd (cc) ]
+  | inr r ↦ elim (in_head (suc n) k [] r) as (λ _. k ≤ suc n) [ inl e ↦ omega arith | inr none ↦ absurd (cc) ]
 ]
 
 pub numbers_distinct : (n : ℕ) → IsDistinct nat_eq (numbers_to n)

@@ -5,7 +5,7 @@ use Rattle.std.proofs.Math.ListN.{set}
 use Rattle.std.proofs.lemmas.Bool.{cases_eq, eq-eqb, ne_eqb, and_parts, and_from}
 use Rattle.std.proofs.lemmas.List.{get_or_past, get_or-set_same, get_or-set_other, length-set}
 use Rattle.ptk_words.specs.Pools.{is_in, without, numbers_to, first_of_greatest}
-use Rattle.ptk_words.proofs.Lists.{distinct-filter, in_here}
+use Rattle.ptk_words.proofs.Lists.{distinct-filter, in_here, in_head, out_of}
 use Rattle.ptk_words_parted.specs.Parts.{part_of}
 use Rattle.ptk_threads.specs.Table.{stored_of}
 use Rattle.ptk_threads.specs.Queues.{without_first}
@@ -13,7 +13,7 @@ use Rattle.ptk_threads_slots.specs.declared.link.QueueName.{QueueName}
 use Rattle.ptk_threads_slots.specs.declared.queues.FirstThread.{FirstThread}
 use Rattle.ptk_threads_slots.specs.Links.{place_of, first_or}
 use Rattle.ptk_threads_slots.specs.Changes.{first_in}
-use Rattle.ptk_threads_slots.proofs.Along.{in_front, in_later, not_true, out_of, le_or_gt}
+use Rattle.ptk_threads_slots.proofs.Along.{in_later, not_true, le_or_gt}
 use Rattle.ptk_threads_slots.proofs.Lists.{without_none}
 use Rattle.ptk_ready.specs.declared.stamps.StampRange.{StampRange}
 use Rattle.ptk_ready.specs.Bits.{has_bit, IsBitChanged, IsGreatestBit}
@@ -82,7 +82,7 @@ split limit range lists stored stamps bitmap k i ks led =
       ];
       stays = λ q j low inside apart. elim (cases_eq j i) as (λ _. is_in q (part_of (set lists i ks) j) ≡ true) [
         | inl e ↦ subst (λ l. is_in q l ≡ true) (sym (ap (part_of (set lists i ks)) e ∙ own))
-            (elim (in_front q k ks (subst (λ l. is_in q l ≡ true) (ap (part_of lists) e ∙ led.list) inside)) as (λ _. is_in q ks ≡ true) [ inl same ↦ absurd (apart same) | inr r ↦ r ])
+            (elim (in_head k q ks (subst (λ l. is_in q l ≡ true) (ap (part_of lists) e ∙ led.list) inside)) as (λ _. is_in q ks ≡ true) [ inl same ↦ absurd (apart same) | inr r ↦ r ])
         | inr ne ↦ subst (λ l. is_in q l ≡ true) (sym (get_or-set_other lists i j ks [] ne)) inside
       ];
     }

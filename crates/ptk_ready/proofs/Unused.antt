@@ -1,5 +1,5 @@
 -- The queues of a slot table as it is built.
-use Rattle.std.proofs.Common.{◌≡◌, ℕ, zero, suc, List, [], ◌∷◌, length, map, refl, sym, ◌∙◌, ap, subst}
+use Rattle.std.proofs.Common.{◌≡◌, ℕ, zero, suc, List, [], ◌∷◌, length, map, refl, ◌∙◌, ap}
 use Rattle.std.specs.Prelude.{Option, Some, None}
 use Rattle.std.proofs.lemmas.List.{length-set}
 use Rattle.ptk_words.specs.Pools.{least_free}
@@ -18,20 +18,9 @@ lists_empty (n ∷ counts) (suc p) i = lists_empty counts p i
 pub unused_built : (counts : List ℕ) → AreUnused (map no_queues counts)
 unused_built counts = λ p i lt. lists_empty counts p i
 
--- a new thread changes no queue
-queues_new : (at : Option ℕ) (p : ℕ) (thread : Thread) (table : ThreadTable) → (with_new_at at p thread table).queues ≡ table.queues
-queues_new None p thread table = refl
-queues_new (Some k) p thread table = refl
-
 long : (at : Option ℕ) (p : ℕ) (thread : Thread) (table : ThreadTable) → length (with_new_at at p thread table).threads ≡ length table.threads
 long None p thread table = refl
 long (Some k) p thread table = length-set table.threads p _
 
-pub unused_new : (p : ℕ) (thread : Thread) (a b : ThreadTable) → b ≡ with_new p thread a → AreUnused a.queues → AreUnused b.queues
-unused_new p thread a b e unused =
-    subst AreUnused (sym (ap (λ (t : ThreadTable). t.queues) e ∙ queues_new (least_free (part_of a.threads p)) p thread a)) unused
-
 pub length_new : (p : ℕ) (thread : Thread) (a b : ThreadTable) → b ≡ with_new p thread a → length b.threads ≡ length a.threads
 length_new p thread a b e = ap (λ (t : ThreadTable). length t.threads) e ∙ long (least_free (part_of a.threads p)) p thread a
-
-pub ruleset built = (unused_built, unused_new, length_new)

@@ -11,10 +11,8 @@ use crate::instr::Instr;
 pub fn word_again(word: u32) -> Option<u32>
     ensures { result ≡ option_map (λ _. word) (decoded word) }
 {
-    match decode(word) {
-        Some(instr) => Some(encode(&instr)),
-        None => None,
-    }
+    let instr = decode(word)?;
+    Some(encode(&instr))
 }
 
 /// The instruction that the word of this instruction is decoded to, which is this instruction.

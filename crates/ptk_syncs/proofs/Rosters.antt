@@ -11,15 +11,15 @@ use Rattle.std.proofs.lemmas.List.{length-map, length-set, length-replicate, set
 use Rattle.ptk_words.specs.Pools.{pool_get, pool_set, pool_changed, least_free, is_in, without}
 use Rattle.ptk_words.specs.declared.threads.Thread.{Thread}
 use Rattle.ptk_words.proofs.Options.{mapped_some}
-use Rattle.ptk_words.proofs.Lists.{in_here}
+use Rattle.ptk_words.proofs.Lists.{in_here, in_head, out_of}
 use Rattle.ptk_words.proofs.Pools.{changed_own, changed_other, get-set_other, least_free_none, pool_set_all}
 use Rattle.ptk_words_parted.specs.Parts.{part_of, filled}
 use Rattle.ptk_threads.specs.Table.{ThreadTable, AreLevelsOf, free_table, thread_in, stored_of, with_changed, with_slot, with_new, with_new_at, with_left, with_rest, with_free, with_stored}
 use Rattle.ptk_threads.proofs.Pools.{part_of-set, part_of-set_other}
-use Rattle.ptk_threads_slots.proofs.Along.{le_or_gt, not_true, in_front, in_later}
+use Rattle.ptk_threads_slots.proofs.Along.{le_or_gt, not_true, in_later}
 use Rattle.ptk_ready.specs.declared.entries.LinkedEntries.{LinkedEntries}
 use Rattle.ptk_ready.specs.Lines.{without_one}
-use Rattle.ptk_ready.proofs.Kept.{in_without, member_apart}
+use Rattle.ptk_ready.proofs.Kept.{in_without}
 use Rattle.ptk_ready.proofs.Moves.{stored_other}
 use Rattle.ptk_ready.specs.Partitions.{lines_by, AreFiled}
 use Rattle.ptk_ready.proofs.Partitions.{priority_out, stored_here}
@@ -101,14 +101,14 @@ moved_roster limit line late a b p xs roster filed threads stored lines used = r
 }
 
 pub first_used : (a : ThreadTable) (p k : ℕ) (xs : List ℕ) → IsSome (thread_in a p k) → ((j : ℕ) → is_in j xs ≡ true → IsSome (thread_in a p j)) → (j : ℕ) → is_in j (k ∷ xs) ≡ true → IsSome (thread_in a p j)
-first_used a p k xs own rest = λ j inside. elim (in_front j k xs inside) as (λ _. IsSome (thread_in a p j)) [
+first_used a p k xs own rest = λ j inside. elim (in_head k j xs inside) as (λ _. IsSome (thread_in a p j)) [
   | inl e ↦ subst (λ z. IsSome (thread_in a p z)) (sym e) own
   | inr there ↦ rest j there
 ]
 
 pub last_used : (a : ThreadTable) (p k : ℕ) (xs : List ℕ) → IsSome (thread_in a p k) → ((j : ℕ) → is_in j xs ≡ true → IsSome (thread_in a p j)) → (j : ℕ) → is_in j (xs ++ k ∷ []) ≡ true → IsSome (thread_in a p j)
 last_used a p k [] own rest = first_used a p k [] own rest
-last_used a p k (x ∷ xs) own rest = λ j inside. elim (in_front j x (xs ++ k ∷ []) inside) as (λ _. IsSome (thread_in a p j)) [
+last_used a p k (x ∷ xs) own rest = λ j inside. elim (in_head x j (xs ++ k ∷ []) inside) as (λ _. IsSome (thread_in a p j)) [
   | inl e ↦ rest j (subst (λ z. is_in z (x ∷ xs) ≡ true) (sym e) (in_here x xs))
   | inr there ↦ last_used a p k xs own (λ i h. rest i (in_later i x xs h)) j there
 ]
@@ -167,7 +167,7 @@ slot_roster limit line p k level slot a lt le own out roster =
       listed = λ q j inside. elim (cases_eq q p) as (λ _. IsSome (thread_in (with_slot p k slot level a) q j)) [
         | inl e ↦ subst (λ z. IsSome (thread_in (with_slot p k slot level a) z j)) (sym e)
             (let here : is_in j (part_of (lines_by line a.queues) p) ≡ true = subst (λ z. is_in j (part_of (lines_by line a.queues) z) ≡ true) e inside in
-            rw (threads, get-set_other k j slot (part_of a.threads p) (member_apart k j (part_of (lines_by line a.queues) p) out here)) (roster.listed p j here))
+            rw (threads, get-set_other k j slot (part_of a.threads p) (out_of j k (part_of (lines_by line a.queues) p) out here)) (roster.listed p j here))
         | inr ne ↦ rw (part_of-set_other a.threads p q (pool_set (part_of a.threads p) k slot) ne) (roster.listed q j inside)
       ];
       levels = λ q. elim (cases_eq q p) as (λ _. AreLevelsOf (part_of (with_slot p k slot level a).threads q) (part_of (with_slot p k slot level a).stored q)) [

@@ -39,10 +39,8 @@ impl Roster {
         requires { p < length self.now.table.threads }
         ensures { result ≡ least_free (part_of self.now.conditions p) }
     {
-        match first_unused_place(self.conditions.part(p)) {
-            Some(i) => Some(ConditionNo::new(i as u8 + 1)),
-            None => None,
-        }
+        let place = first_unused_place(self.conditions.part(p))?;
+        Some(ConditionNo::new(place as u8 + 1))
     }
 
     /// How many numbers of condition variables a partition has, at most 32.

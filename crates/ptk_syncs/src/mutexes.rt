@@ -33,10 +33,8 @@ impl Roster {
         requires { p < length self.now.table.threads }
         ensures { result ≡ least_free (part_of self.now.mutexes p) }
     {
-        match first_free_place(self.mutexes.part(p)) {
-            Some(i) => Some(MutexNo::new(i as u8 + 1)),
-            None => None,
-        }
+        let place = first_free_place(self.mutexes.part(p))?;
+        Some(MutexNo::new(place as u8 + 1))
     }
 
     /// The waiters of a mutex, in order of arrival; none of a free number (pthread_mutex_lock).

@@ -5,14 +5,14 @@ use Rattle.std.proofs.Math.ListN.{set, get_or-map}
 use Rattle.std.proofs.lemmas.List.{length-map, get_or_append_left, get_or-append-add, get_or_default}
 use Rattle.std.proofs.lemmas.Simd.{map-map}
 use Rattle.ptk_words.specs.Pools.{is_in}
-use Rattle.ptk_words.proofs.Lists.{in_here}
+use Rattle.ptk_words.proofs.Lists.{in_here, in_head}
 use Rattle.ptk_words_parted.specs.Parts.{part_of, joined}
 use Rattle.ptk_threads_slots.specs.declared.link.SlotLink.{SlotLink}
 use Rattle.ptk_threads_slots.specs.declared.link.Link.{Link}
 use Rattle.ptk_threads_slots.specs.declared.link.Ends.{Ends}
 use Rattle.ptk_threads_slots.specs.declared.slot.Slot.{Slot}
 use Rattle.ptk_threads_slots.specs.Links.{place_of, link_in, links_of, shared_links, threads_of, free_slot, no_link, own_link, shared_link, slot_at, AreLinksFrom, mark_of, first_or, IsAlong, queue_at, AreQueues}
-use Rattle.ptk_threads_slots.proofs.Along.{in_front, in_later, along_marked, marked_within}
+use Rattle.ptk_threads_slots.proofs.Along.{in_later, along_marked, marked_within}
 use Rattle.ptk_clock.specs.ByThread.{first_slot}
 use Rattle.ptk_threads.specs.Shared.{link_at, IsAlongLinks}
 
@@ -98,12 +98,12 @@ along_joined slots ends p i from are =
 next_inside : (links : List Link) (i : ℕ) (before : Option ℕ) (ks : List ℕ) (k n : ℕ) → IsAlong links i before None ks → is_in k ks ≡ true → (link_in links k).next ≡ Some n → is_in n ks ≡ true
 next_inside links i before [] k n h inside e = absurd (cc)
 next_inside links i before (x ∷ []) k n h inside e =
-    elim (in_front k x [] inside) as (λ _. is_in n (x ∷ []) ≡ true) [
+    elim (in_head x k [] inside) as (λ _. is_in n (x ∷ []) ≡ true) [
       | inl same ↦ (let none : None ≡ Some n = sym h.0.next ∙ rw same at e in absurd (cc))
       | inr r ↦ absurd (cc)
     ]
 next_inside links i before (x ∷ y ∷ ks) k n h inside e =
-    elim (in_front k x (y ∷ ks) inside) as (λ _. is_in n (x ∷ y ∷ ks) ≡ true) [
+    elim (in_head x k (y ∷ ks) inside) as (λ _. is_in n (x ∷ y ∷ ks) ≡ true) [
       | inl same ↦ (let next : Some y ≡ Some n = sym h.0.next ∙ rw same at e in let is : n ≡ y = cc in in_later n x (y ∷ ks) (subst (λ m. is_in m (y ∷ ks) ≡ true) (sym is) (in_here y ks)))
       | inr r ↦ in_later n x (y ∷ ks) (next_inside links i (Some x) (y ∷ ks) k n h.1 r e)
     ]
@@ -111,7 +111,7 @@ next_inside links i before (x ∷ y ∷ ks) k n h inside e =
 previous_inside : (links : List Link) (i : ℕ) (before : Option ℕ) (ks : List ℕ) (k n : ℕ) → IsAlong links i before None ks → is_in k ks ≡ true → (link_in links k).previous ≡ Some n → (before ≡ Some n) ⊎ (is_in n ks ≡ true)
 previous_inside links i before [] k n h inside e = absurd (cc)
 previous_inside links i before (x ∷ ks) k n h inside e =
-    elim (in_front k x ks inside) as (λ _. (before ≡ Some n) ⊎ (is_in n (x ∷ ks) ≡ true)) [
+    elim (in_head x k ks inside) as (λ _. (before ≡ Some n) ⊎ (is_in n (x ∷ ks) ≡ true)) [
       | inl same ↦ inl (sym h.0.previous ∙ rw same at e)
       | inr r ↦ elim (previous_inside links i (Some x) ks k n h.1 r e) as (λ _. (before ≡ Some n) ⊎ (is_in n (x ∷ ks) ≡ true)) [
         | inl own ↦ (let is : n ≡ x = cc in inr (subst (λ m. is_in m (x ∷ ks) ≡ true) (sym is) (in_here x ks)))

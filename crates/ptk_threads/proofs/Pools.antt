@@ -3,9 +3,8 @@ use Rattle.std.proofs.Common.{◌≡◌, ◌≢◌, ℕ, zero, suc, ◌<◌, Lis
 use Rattle.std.specs.Prelude.{Option, Some, None, option_map, slice_get}
 use Rattle.std.specs.Option.{is_some, option_copied, option_flatten}
 use Rattle.std.proofs.Math.ListN.{set}
-use Rattle.std.proofs.lemmas.List.{length-set, set-set, set-get_or, get_or-set_same, get_or-set_other}
+use Rattle.std.proofs.lemmas.List.{set-get_or, get_or-set_same, get_or-set_other}
 use Rattle.ptk_words.specs.Pools.{pool_get, pool_changed}
-use Rattle.ptk_words.proofs.Pools.{changed_own, changed_twice}
 use Rattle.ptk_words_parted.specs.Parts.{part_of}
 
 -- ---- a change of a free number
@@ -42,6 +41,3 @@ pub unused_same : {A : Type 0} (seen : Option (Bor A)) (p k : ℕ) (f : A → A)
     → set threads p (pool_changed k f (part_of threads p)) ≡ threads
 unused_same seen p k f threads none told =
     ap (set threads p) (pool_changed-free k f (part_of threads p) (sym told ∙ none_copied seen none)) ∙ set-get_or threads p []
-
--- what several calls in one partition come to
-pub ruleset moves = (changed_own, changed_twice, part_of-set, set-set, set-get_or, length-set)

@@ -54,13 +54,6 @@ waits_kept : (f : Thread → Thread) (x : Option Thread) → ((thread : Thread) 
 waits_kept f None keeps = refl
 waits_kept f (Some thread) keeps = keeps thread
 
-same_deadlines : (k : ℕ) (f : Thread → Thread) (row : List (Option Thread)) → deadline_at (option_map f (pool_get row k)) ≡ deadline_at (pool_get row k) → deadlines_in (pool_changed k f row) ≡ deadlines_in row
-same_deadlines k f row same =
-    let slot = pool_get row k in
-    let stays : Thread → Thread = λ (thread : Thread). thread in
-    let kept : wait_of (option_map stays slot) ≡ wait_of slot = waits_kept stays slot (λ thread. refl) in
-    changed_deadline k f (deadline_at slot) row same ∙ sym (changed_deadline k stays (deadline_at slot) row (ap deadline_of_wait kept)) ∙ deadlines-kept k stays (locks_of row []) kept
-
 waits_made : (made : Thread) (x : Option Thread) → IfSome x (λ thread. made.wait ≡ thread.wait) → wait_of (option_map (replaced_by made) x) ≡ wait_of x
 waits_made made None h = refl
 waits_made made (Some thread) h = h

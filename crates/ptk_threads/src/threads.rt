@@ -126,10 +126,8 @@ impl Threads {
         requires { p < length self.now.threads }
         ensures { result ≡ least_free (part_of self.now.threads p) }
     {
-        match first_free_place(self.part(p)) {
-            Some(i) => Some(ThreadNo::new(i as u8 + 1)),
-            None => None,
-        }
+        let place = first_free_place(self.part(p))?;
+        Some(ThreadNo::new(place as u8 + 1))
     }
 
     /// A new thread at the least free number, with its assigned priority as the stored one; None, and nothing changes,

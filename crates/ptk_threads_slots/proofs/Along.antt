@@ -8,10 +8,9 @@ use Rattle.std.proofs.lemmas.List.Folds.{list_any-append}
 use Rattle.std.proofs.lemmas.Map.Keys.{IsDistinct-tail}
 use Rattle.std.proofs.lemmas.Option.{same_Some}
 use Rattle.ptk_words.specs.Pools.{pool_set, is_in}
-use Rattle.ptk_words.proofs.Lists.{none_distinct, distinct_head, in_here, head_out}
+use Rattle.ptk_words.proofs.Lists.{none_distinct, distinct_head, in_here, head_out, in_head, out_of}
 use Rattle.ptk_threads_slots.specs.declared.link.Link.{Link}
 use Rattle.ptk_threads_slots.specs.Links.{place_of, link_in, no_link, mark_of, with_next, with_previous, first_or, last_or, IsLink, IsAlong, walk}
-pub use Rattle.ptk_words_parted.proofs.Lists.{in_front}
 
 -- ---- lists
 
@@ -27,14 +26,11 @@ in_right q xs ys h = list_any-append (nat_eq q) xs ys ∙ or_right (is_in q xs) 
 pub in_parts : (q : ℕ) (xs ys : List ℕ) → is_in q (xs ++ ys) ≡ true → (is_in q xs ≡ true) ⊎ (is_in q ys ≡ true)
 in_parts q xs ys h = or_cases (is_in q xs) (is_in q ys) (sym (list_any-append (nat_eq q) xs ys) ∙ h)
 
-pub out_of : (q k : ℕ) (ks : List ℕ) → is_in k ks ≡ false → is_in q ks ≡ true → q ≢ k
-out_of q k ks out inside = λ e. (let same : is_in k ks ≡ true = rw (← e) inside in absurd (cc))
-
 -- what lies left and what lies right in a distinct list are apart
 pub apart : (y z : ℕ) (xs ys : List ℕ) → IsDistinct nat_eq (xs ++ ys) → is_in y xs ≡ true → is_in z ys ≡ true → y ≢ z
 apart y z [] ys d h g = absurd (cc)
 apart y z (x ∷ xs) ys d h g =
-    elim (in_front y x xs h) as (λ _. y ≢ z) [
+    elim (in_head x y xs h) as (λ _. y ≢ z) [
       | inl e ↦ (λ same. out_of z x (xs ++ ys) (head_out x (xs ++ ys) d) (in_right z xs ys g) (sym same ∙ e))
       | inr r ↦ apart y z xs ys (IsDistinct-tail nat_eq x (xs ++ ys) d) r g
     ]
@@ -150,7 +146,7 @@ along_join links i b a (x ∷ xs) ys h g = (rw (first_append a xs ys) h.0, along
 pub along_marked : (links : List Link) (i : ℕ) (b a : Option ℕ) (xs : List ℕ) (y : ℕ) → IsAlong links i b a xs → is_in y xs ≡ true → mark_of links y ≡ Some i
 along_marked links i b a [] y h inside = absurd (cc)
 along_marked links i b a (x ∷ xs) y h inside =
-    elim (in_front y x xs inside) as (λ _. mark_of links y ≡ Some i) [
+    elim (in_head x y xs inside) as (λ _. mark_of links y ≡ Some i) [
       | inl e ↦ rw e h.0.queue
       | inr r ↦ along_marked links i (Some x) a xs y h.1 r
     ]

@@ -8,7 +8,7 @@ use Rattle.std.proofs.lemmas.Bool.Decides.{nat_tests}
 use Rattle.std.proofs.lemmas.List.{append-nil, set_comm, get_or-set_other, set-get_or}
 use Rattle.ptk_words.specs.Pools.{pool_set, is_in, without}
 use Rattle.ptk_words.proofs.Options.{none_if_never_some}
-use Rattle.ptk_words.proofs.Lists.{head_out}
+use Rattle.ptk_words.proofs.Lists.{head_out, in_head}
 use Rattle.ptk_words_parted.specs.Parts.{part_of}
 use Rattle.ptk_threads_slots.specs.declared.link.Link.{Link}
 use Rattle.ptk_threads_slots.specs.declared.link.SlotLink.{SlotLink}
@@ -18,7 +18,7 @@ use Rattle.ptk_threads_slots.specs.declared.link.QueueName.TheVariants.{Ready, M
 use Rattle.ptk_threads_slots.specs.declared.thread_list.Members.TheVariants.{OnlyMember}
 use Rattle.ptk_threads_slots.specs.Links.{place_of, IsQueueName, link_in, own_link, number_at, no_link, no_ends, ends_at, mark_of, with_previous, first_or, last_or, IsLink, IsAlong, IsQueue, AreQueues, queue_from, queue_at, queues}
 use Rattle.ptk_threads_slots.specs.Changes.{first_in, few_of, with_taken, put_before, linked_between, end_between, unlinked, end_without}
-use Rattle.ptk_threads_slots.proofs.Along.{in_front, out_parts, marked_within, first_out, last_out, along_right, along_marked, not_true}
+use Rattle.ptk_threads_slots.proofs.Along.{out_parts, marked_within, first_out, last_out, along_right, along_marked, not_true}
 use Rattle.ptk_threads_slots.proofs.Turns.{IsMoved, queues_moved, are_moved, between, taken, out_middle}
 
 -- the queues are these, with this list at place i
@@ -46,7 +46,7 @@ split k [] h = absurd (cc)
 split k (x ∷ xs) h =
     elim (cases_eq k x) as (λ _. Split k (x ∷ xs)) [
       | inl e ↦ record { before = []; after = xs; is = ap (λ y. y ∷ xs) (sym e); out = refl }
-      | inr ne ↦ (let there : is_in k xs ≡ true = elim (in_front k x xs h) as (λ _. is_in k xs ≡ true) [ inl e ↦ absurd (ne e) | inr r ↦ r ] in
+      | inr ne ↦ (let there : is_in k xs ≡ true = elim (in_head x k xs h) as (λ _. is_in k xs ≡ true) [ inl e ↦ absurd (ne e) | inr r ↦ r ] in
           let rest = split k xs there in
           let apart : nat_eq k x ≡ false = grind (arith, nat_tests) in
           record { before = x ∷ rest.before; after = rest.after; is = ap (λ l. x ∷ l) rest.is; out = rw apart rest.out })

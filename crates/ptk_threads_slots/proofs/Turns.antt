@@ -8,12 +8,12 @@ use Rattle.std.proofs.lemmas.List.{get_or-set_same, get_or-set_other, set_past, 
 use Rattle.std.proofs.lemmas.Map.Keys.{IsDistinct-tail}
 use Rattle.std.proofs.lemmas.Map.Steps.{length-le_from_distinct_below}
 use Rattle.ptk_words.specs.Pools.{pool_set, is_in}
-use Rattle.ptk_words.proofs.Lists.{in_here, distinct_head, head_out}
+use Rattle.ptk_words.proofs.Lists.{in_here, distinct_head, head_out, in_head, out_of}
 use Rattle.ptk_threads_slots.specs.declared.link.Link.{Link}
 use Rattle.ptk_threads_slots.specs.declared.link.Ends.{Ends}
 use Rattle.ptk_threads_slots.specs.Links.{place_of, link_in, no_link, no_ends, ends_at, mark_of, with_next, with_previous, first_after, last_before, first_or, last_or, IsLink, IsAlong, IsQueue, AreQueues, queue_from, queue_at, queues}
 use Rattle.ptk_threads_slots.specs.Changes.{linked_between, end_between, unlinked, end_without}
-use Rattle.ptk_threads_slots.proofs.Along.{in_front, in_later, in_left, in_right, in_parts, out_of, apart, not_true, out_join, out_parts, distinct_left, distinct_right, le_or_gt, marked_within, link_same, link_other, next_other, previous_other, length_next, length_previous, last_out, first_out, along_same, along_left, along_right, along_join, along_marked, along_ends, along_starts, walk_along}
+use Rattle.ptk_threads_slots.proofs.Along.{in_later, in_left, in_right, in_parts, apart, not_true, out_join, out_parts, distinct_left, distinct_right, le_or_gt, marked_within, link_same, link_other, next_other, previous_other, length_next, length_previous, last_out, first_out, along_same, along_left, along_right, along_join, along_marked, along_ends, along_starts, walk_along}
 
 -- the queue at place i is this line now; links of other queues' threads stay, nobody came to another queue, and who is in none has no neighbours
 pub record IsMoved (links new : List Link) (ends : List Ends) (i : ℕ) (end : Ends) (line : List ℕ) : Type 0 where
@@ -135,7 +135,7 @@ distinct_between (x ∷ xs) ys k out d =
     let parts = out_parts x xs ys head in
     let mine : is_in k (x ∷ xs ++ ys) ≡ false = out in
     let later : is_in k (xs ++ ys) ≡ false = not_true (is_in k (xs ++ ys)) (λ inside. (let there = in_later k x (xs ++ ys) inside in absurd (cc))) in
-    let apart : is_in x (k ∷ ys) ≡ false = not_true (is_in x (k ∷ ys)) (λ inside. elim (in_front x k ys inside) as (λ _. ⊥) [
+    let apart : is_in x (k ∷ ys) ≡ false = not_true (is_in x (k ∷ ys)) (λ inside. elim (in_head k x ys inside) as (λ _. ⊥) [
       | inl e ↦ (let there : is_in k (x ∷ xs ++ ys) ≡ true = rw e (in_here k (xs ++ ys)) in absurd (cc))
       | inr r ↦ absurd (cc)
     ]) in
@@ -295,7 +295,7 @@ taken links ends i k link xs ys are lt is mark line =
                     same,
                     elim (in_parts y xs (k ∷ ys) there) as (λ _. is_in y (xs ++ ys) ≡ true) [
                       | inl l ↦ in_left y xs ys l
-                      | inr r ↦ elim (in_front y k ys r) as (λ _. is_in y (xs ++ ys) ≡ true) [ inl e ↦ absurd (ne e) | inr s ↦ in_right y xs ys s ]
+                      | inr r ↦ elim (in_head k y ys r) as (λ _. is_in y (xs ++ ys) ≡ true) [ inl e ↦ absurd (ne e) | inr s ↦ in_right y xs ys s ]
                     ],
                   ))
             ])

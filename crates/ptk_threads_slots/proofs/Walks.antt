@@ -5,13 +5,13 @@ use Rattle.std.proofs.lemmas.List.{append-nil}
 use Rattle.std.proofs.Common.{append_assoc, length-append}
 use Rattle.std.proofs.lemmas.Map.Steps.{length-le_from_distinct_below}
 use Rattle.ptk_words.specs.Pools.{is_in}
-use Rattle.ptk_words.proofs.Lists.{distinct_head}
+use Rattle.ptk_words.proofs.Lists.{distinct_head, in_head}
 use Rattle.ptk_words_parted.specs.Parts.{part_of}
 use Rattle.ptk_threads_slots.specs.declared.link.Link.{Link}
 use Rattle.ptk_threads_slots.specs.declared.link.Ends.{Ends}
 use Rattle.ptk_threads_slots.specs.declared.slot.Slot.{Slot}
 use Rattle.ptk_threads_slots.specs.Links.{link_in, links_of, queue_at, queues, walk, AreQueues}
-use Rattle.ptk_threads_slots.proofs.Along.{along_marked, marked_within, in_front, not_true}
+use Rattle.ptk_threads_slots.proofs.Along.{along_marked, marked_within, not_true}
 use Rattle.ptk_threads_slots.proofs.Slots.{links_count}
 use Rattle.ptk_threads_slots.proofs.Lists.{list_at}
 
@@ -24,7 +24,7 @@ few links ends i are =
     let line = queue_at links ends i in
     let out : is_in 0 line ≡ false = not_true (is_in 0 line) (λ inside. (let none = (member_within links ends i 0 are inside).0 in absurd (omega arith))) in
     let below : (q : ℕ) → is_in q (0 ∷ line) ≡ true → q < suc (length links) =
-    λ q h. elim (in_front q 0 line h) as (λ _. q < suc (length links)) [ inl e ↦ omega (arith, e) | inr r ↦ (let small = (member_within links ends i q are r).1 in omega (arith, small)) ] in
+    λ q h. elim (in_head 0 q line h) as (λ _. q < suc (length links)) [ inl e ↦ omega (arith, e) | inr r ↦ (let small = (member_within links ends i q are r).1 in omega (arith, small)) ] in
     let all : length (0 ∷ line) ≤ suc (length links) = length-le_from_distinct_below (0 ∷ line) (suc (length links)) (distinct_head 0 line (are.each i).distinct out) below in
     omega (arith, all)
 

@@ -2,5 +2,5 @@ use Rattle.std.proofs.Common.{arith}
 use Rattle.ptk_keys.proofs.Due.{due}
 use Rattle.ptk_keys.proofs.destructors.call_in_next_round.Goals as goal
 
-pub returns-in-Some : goal.returns-in-Some
-returns-in-Some c = grind (arith, due)
+pub returns : goal.returns
+returns c = grind (arith, due)
