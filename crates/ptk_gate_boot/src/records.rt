@@ -7,18 +7,30 @@ use ptk_words::{Entry, Limits, Status};
 use std::alloc::{AllocError, Global};
 
 /// The status of each partition, its last step, and the numbers of its section.
-pub type Records = (Vec<Status>, Vec<Option<Entry>>, Vec<Limits>);
+#[derive(Drop)]
+pub struct Records {
+    /// The status of each partition.
+    pub statuses: Vec<Status>,
+    /// The last step of each partition, if it has made one.
+    pub lasts: Vec<Option<Entry>>,
+    /// The numbers of each partition's section.
+    pub limits: Vec<Limits>,
+}
 
 /// No partition is halted, and none has made a step.
 pub fn records_of(alloc: Global, limits: &[Limits]) -> Result<Records, AllocError>
-    ensures statuses { IfOk result (λ made. made.0.items ≡ replicate (length limits.now) Active) }
-    ensures lasts { IfOk result (λ made. made.1.items ≡ replicate (length limits.now) None) }
-    ensures limits { IfOk result (λ made. made.2.items ≡ limits.now) }
+    ensures statuses { IfOk result (λ made. made.statuses.items ≡ replicate (length limits.now) Active) }
+    ensures lasts { IfOk result (λ made. made.lasts.items ≡ replicate (length limits.now) None) }
+    ensures limits { IfOk result (λ made. made.limits.items ≡ limits.now) }
 {
     let statuses = all_active(alloc, limits.len())?;
     let lasts = no_entries(alloc, limits.len())?;
     let limits = limits.to_vec(alloc)?;
-    Ok((statuses, lasts, limits))
+    Ok(Records {
+        statuses,
+        lasts,
+        limits,
+    })
 }
 
 /// No partition is halted.

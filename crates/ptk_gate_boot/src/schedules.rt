@@ -10,7 +10,13 @@ use ptk_words::{Limits, ThreadNo};
 use std::alloc::{AllocError, Global};
 
 /// The threads of each partition with their line, their mutexes and condition variables, and the running one.
-pub type Schedules = (Roster, Vec<Option<ThreadNo>>);
+#[derive(Drop)]
+pub struct Schedules {
+    /// The threads of each partition with their line, their mutexes and condition variables.
+    pub roster: Roster,
+    /// The running thread of each partition, if one runs.
+    pub running: Vec<Option<ThreadNo>>,
+}
 
 /// Every number of a thread, a mutex and a condition variable is free, the line is empty, and no thread runs.
 pub(crate) fn schedules_of(alloc: Global, limits: &[Limits]) -> Result<Schedules, AllocError>
@@ -18,15 +24,15 @@ pub(crate) fn schedules_of(alloc: Global, limits: &[Limits]) -> Result<Schedules
     requires threads { All (λ count. count ≤ 32) (map (λ l. l.threads) limits.now) }
     requires mutexes { All (λ count. count ≤ 64) (map (λ l. l.mutexes) limits.now) }
     requires conditions { All (λ count. count ≤ 32) (map (λ l. l.conditions) limits.now) }
-    ensures table { IfOk result (λ made. made.0.table ≡ record { threads = per_section (λ l. l.threads) None limits.now; stored = per_section (λ l. l.threads) 0 limits.now; queues = [] }) }
-    ensures line { IfOk result (λ made. made.0.lines ≡ replicate (length limits.now) []) }
-    ensures mutexes { IfOk result (λ made. made.0.mutexes ≡ per_section (λ l. l.mutexes) None limits.now) }
-    ensures conditions { IfOk result (λ made. made.0.conditions ≡ per_section (λ l. l.conditions) None limits.now) }
-    ensures running { IfOk result (λ made. made.1.items ≡ replicate (length limits.now) None) }
+    ensures table { IfOk result (λ made. made.roster.table ≡ record { threads = per_section (λ l. l.threads) None limits.now; stored = per_section (λ l. l.threads) 0 limits.now; queues = [] }) }
+    ensures line { IfOk result (λ made. made.roster.lines ≡ replicate (length limits.now) []) }
+    ensures mutexes { IfOk result (λ made. made.roster.mutexes ≡ per_section (λ l. l.mutexes) None limits.now) }
+    ensures conditions { IfOk result (λ made. made.roster.conditions ≡ per_section (λ l. l.conditions) None limits.now) }
+    ensures running { IfOk result (λ made. made.running.items ≡ replicate (length limits.now) None) }
 {
     let roster = roster_of(alloc, limits)?;
     let running = none_running(alloc, limits.len())?;
-    Ok((roster, running))
+    Ok(Schedules { roster, running })
 }
 
 /// Every number is free, and the line is empty.

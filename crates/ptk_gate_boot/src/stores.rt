@@ -11,7 +11,13 @@ use ptk_words::{Arrival, Limits};
 use std::alloc::{AllocError, Global};
 
 /// The memory of each partition, and its console.
-pub type Stores = (Memories, Consoles);
+#[derive(Drop)]
+pub struct Stores {
+    /// The memory of each partition.
+    pub memories: Memories,
+    /// The console of each partition.
+    pub consoles: Consoles,
+}
 
 /// All memory is 0, and all input is still to come.
 pub fn stores_of(
@@ -22,12 +28,12 @@ pub fn stores_of(
     requires sections { length limits.now ≤ 8 }
     requires inputs { length inputs.now ≡ length limits.now }
     requires memory { All IsOfWords (map (λ l. l.memory) limits.now) }
-    ensures memory { IfOk result (λ made. made.0 ≡ per_section (λ l. l.memory) 0 limits.now) }
-    ensures consoles { IfOk result (λ made. made.1 ≡ record { limits = limits.now; consoles = map (λ input. fresh_console input.now) inputs.now }) }
+    ensures memory { IfOk result (λ made. made.memories ≡ per_section (λ l. l.memory) 0 limits.now) }
+    ensures consoles { IfOk result (λ made. made.consoles ≡ record { limits = limits.now; consoles = map (λ input. fresh_console input.now) inputs.now }) }
 {
     let memories = memories_of(alloc, limits)?;
     let consoles = Consoles::build(alloc, limits, inputs)?;
-    Ok((memories, consoles))
+    Ok(Stores { memories, consoles })
 }
 
 /// All memory is 0.

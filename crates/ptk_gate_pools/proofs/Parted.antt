@@ -1,7 +1,6 @@
 -- What one partition's part is after another was put.
 use Rattle.std.proofs.Common.{arith, ◌≡◌, ◌≢◌, ℕ, ◌<◌, List, length, refl, ◌∙◌}
-use Rattle.std.proofs.lemmas.List.{set-get_or, set-set, get_or-set_same, get_or-set_other, length-set}
-use Rattle.ptk_words_parted.proofs.Cuts.{lent-same, set_part-same}
+use Rattle.std.proofs.lemmas.List.{set-set, get_or-set_same, get_or-set_other, length-set}
 use Rattle.ptk_words_model.specs.State.{Part}
 use Rattle.ptk_gate_pools.specs.Kept.{Kept, part_at, put_part, AreParts}
 
@@ -102,5 +101,3 @@ parts_put n p s kept parts =
       statuses = length-set kept.statuses p s.status ∙ parts.statuses;
       lasts = length-set kept.lasts p s.last ∙ parts.lasts;
     }
-
-pub ruleset parted = (lent-same, set_part-same, set-get_or, set-set, length-set, get_or-set_same)

@@ -11,7 +11,9 @@ ghost use Rattle.ptk_gate_pools.specs.Kept.{per_section};
 ghost use Rattle.ptk_gate_pools.specs.Held.{held};
 
 use crate::pools::Pools;
-use ptk_gate_boot::{Records, Stores, ThreadParts, records_of, stores_of, thread_parts_of};
+use ptk_gate_boot::{
+    Endings, Records, Schedules, Stores, ThreadParts, records_of, stores_of, thread_parts_of,
+};
 use ptk_gate_waits::Mutexes;
 use ptk_words::{Arrival, Limits, PartId};
 use std::alloc::{AllocError, Global};
@@ -53,23 +55,32 @@ fn joined(
     requires some { 1 ≤ length limits.now }
     requires sections { length limits.now ≤ 8 }
     requires inputs { length inputs.now ≡ length limits.now }
-    requires memory { stores.0 ≡ per_section (λ l. l.memory) 0 limits.now }
-    requires consoles { stores.1 ≡ record { limits = limits.now; consoles = map (λ input. fresh_console input.now) inputs.now } }
-    requires table { threads.0.0.table ≡ record { threads = per_section (λ l. l.threads) None limits.now; stored = per_section (λ l. l.threads) 0 limits.now; queues = [] } }
-    requires line { threads.0.0.lines ≡ replicate (length limits.now) [] }
-    requires running { threads.0.1.items ≡ replicate (length limits.now) None }
-    requires mutexes { threads.0.0.mutexes ≡ per_section (λ l. l.mutexes) None limits.now }
-    requires conditions { threads.0.0.conditions ≡ per_section (λ l. l.conditions) None limits.now }
-    requires cancellations { threads.1.0 ≡ fresh_cancellations limits.now }
-    requires keys { threads.1.1 ≡ fresh_keys limits.now }
-    requires statuses { records.0.items ≡ replicate (length limits.now) Active }
-    requires lasts { records.1.items ≡ replicate (length limits.now) None }
-    requires limits { records.2.items ≡ limits.now }
+    requires memory { stores.memories ≡ per_section (λ l. l.memory) 0 limits.now }
+    requires consoles { stores.consoles ≡ record { limits = limits.now; consoles = map (λ input. fresh_console input.now) inputs.now } }
+    requires table { threads.schedules.roster.table ≡ record { threads = per_section (λ l. l.threads) None limits.now; stored = per_section (λ l. l.threads) 0 limits.now; queues = [] } }
+    requires line { threads.schedules.roster.lines ≡ replicate (length limits.now) [] }
+    requires running { threads.schedules.running.items ≡ replicate (length limits.now) None }
+    requires mutexes { threads.schedules.roster.mutexes ≡ per_section (λ l. l.mutexes) None limits.now }
+    requires conditions { threads.schedules.roster.conditions ≡ per_section (λ l. l.conditions) None limits.now }
+    requires cancellations { threads.endings.cancellations ≡ fresh_cancellations limits.now }
+    requires keys { threads.endings.keys ≡ fresh_keys limits.now }
+    requires statuses { records.statuses.items ≡ replicate (length limits.now) Active }
+    requires lasts { records.lasts.items ≡ replicate (length limits.now) None }
+    requires limits { records.limits.items ≡ limits.now }
     ensures { result ≡ held 0 (blank limits.now (map (λ input. fresh_console input.now) inputs.now)) }
 {
-    let (statuses, lasts, limits) = records;
-    let (memories, consoles) = stores;
-    let ((roster, running), (cancellations, keys)) = threads;
+    let Records {
+        statuses,
+        lasts,
+        limits,
+    } = records;
+    let Stores { memories, consoles } = stores;
+    let ThreadParts { schedules, endings } = threads;
+    let Schedules { roster, running } = schedules;
+    let Endings {
+        cancellations,
+        keys,
+    } = endings;
     Pools {
         memories,
         roster,

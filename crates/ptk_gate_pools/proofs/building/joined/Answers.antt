@@ -11,7 +11,7 @@ use Rattle.ptk_gate_pools.proofs.building.joined.Goals as goal
 pub invariant_of-result : goal.invariant_of-result
 invariant_of-result c =
     let limits : List Limits = c.args.limits.now in
-    let back : length limits ≡ length c.args.records.2.items = ap length (sym c.requires.limits) in
+    let back : length limits ≡ length c.args.records.limits.items = ap length (sym c.requires.limits) in
     record {
       few = subst (λ (n : ℕ). n ≤ 8) back c.requires.sections;
       memory = ap length c.requires.memory ∙ length-map limits _ ∙ back;
@@ -30,7 +30,7 @@ invariant_of-result c =
       sections = ap (λ (table : ConsoleTable). table.limits) c.requires.consoles ∙ sym c.requires.limits;
       statuses = ap length c.requires.statuses ∙ length-replicate (length limits) _ ∙ back;
       lasts = ap length c.requires.lasts ∙ length-replicate (length limits) _ ∙ back;
-      stored = stored_made c.args.threads.0.0.table c.args.threads.0.0.mutexes limits c.requires.mutexes c.requires.table;
+      stored = stored_made c.args.threads.schedules.roster.table c.args.threads.schedules.roster.mutexes limits c.requires.mutexes c.requires.table;
       in_hand = omega (arith, c.new-2.ensures, c.requires.some, back);
     }
 
