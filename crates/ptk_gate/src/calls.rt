@@ -29,8 +29,8 @@ use ptk_words_model::{Invocation, Reply};
 
 /// Carries out the call that the running thread's registers state: the number in a7, the arguments in a0 to a4, at the
 /// tick at which the step begins. The reply is that of the call; ENOSYS of a number that is no call. The pc is
-/// already past the ECALL and stays, save that an unwinding puts the return gate there. A refusal changes a0 alone, and
-/// leaves the mutex that a static initialiser set up; no other partition changes.
+/// already past the ECALL and stays, save that an unwinding puts the return gate there. A refusal changes a0
+/// alone, save that a mutex or a condition variable that a static initialiser set up stays. No other partition changes.
 #[tactic(auto, using(ptk_gate_pools::proofs::Hands::lifting, crate::proofs::Called::whole_calls))]
 pub fn call(tables: &mut Tables, p: PartId, tick: Tick) -> Reply
     requires partition { p < length tables.old.limits }
@@ -52,8 +52,7 @@ fn make_call(pools: &mut Pools, tick: Tick) -> Reply
 {
     match pools.running() {
         Some(caller) => answer(pools, tick, caller),
-        // never met: a thread runs
-        None => Reply::Blocked,
+        None => unreachable!(),
     }
 }
 
@@ -64,10 +63,7 @@ fn answer(pools: &mut Pools, tick: Tick, caller: ThreadNo) -> Reply
     ensures told { result ≡ (call_answer (limits_here pools.old) tick pools.old.here).reply }
     ensures moved { pools.new ≡ record pools.old { here = (call_answer (limits_here pools.old) tick pools.old.here).part } }
 {
-    let Some(thread) = pools.thread_ref(caller) else {
-        // never met: a thread that runs is in use
-        return Reply::Blocked;
-    };
+    let thread = pools.used_thread(caller);
     let cpu = &thread.cpu;
     let i = invocation(pools.limits(), tick, caller, cpu);
     let known = Call::of_number(cpu.register(A7));

@@ -14,7 +14,7 @@ ghost use Rattle.ptk_gate_steps.specs.NextSteps.{IsCallNext};
 ghost use Rattle.ptk_gate_steps.specs.Stretches.{HasEnded, HasGone, IsCallLast};
 
 use crate::tables::Tables;
-use ptk_gate_steps::{Quiet, Reached, idle_until, prepared_until, quiet_until, run_quiet};
+use ptk_gate_steps::{Quiet, Reached, prepared_until, quiet_until, run_quiet, stays_idle_until};
 use ptk_trace::Trace;
 use ptk_words::{PartId, Tick};
 
@@ -51,11 +51,10 @@ impl Tables {
     }
 
     /// Steps of the running thread of a quiet partition in a row, the first of them at the tick: plain ones, and quiet
-    /// calls that end at its stop or before; behind the first plain ones and the call that follows them, only such as
-    /// begin before `until`: where that is the tick or before, a call is the last step. Each is in place of a decision,
-    /// and the trace has them as the newest. Returns the tick of the next decision, how many steps there were, and
-    /// whether the step at that tick is known to be a call. It ends before its stop and before `until` only where the
-    /// next step is neither of the two.
+    /// calls that end at its stop or before. The row ends before that stop only where the next step is neither of the
+    /// two, or, behind a step, at `until` or later; where `until` is the tick or before, a call is the last step. Each
+    /// step is in place of a decision, and the trace has them as the newest. Returns the tick of the next decision, how
+    /// many steps there were, and whether the step at that tick is known to be a call.
     pub fn run_quiet(
         &mut self,
         p: PartId,
@@ -83,11 +82,11 @@ impl Tables {
     /// The tick up to which the partition has nothing to do, at most `stop`: no thread runs or is ready, and no input
     /// comes and no deadline is due before it. None where the partition is halted, or a thread runs or is ready.
     #[tactic(auto, using(crate::proofs::Wholes::moves, ptk_gate_pools::proofs::Hands::lifting))]
-    pub fn idle_until(&self, p: PartId, stop: Tick) -> Option<Tick>
+    pub fn stays_idle_until(&self, p: PartId, stop: Tick) -> Option<Tick>
         requires partition { p < length self.now.limits }
         ensures idle { IfSome result (λ u. (u ≤ stop) × IsIdle u (part_at p self.now)) }
         ensures full { (k : ℕ) → k ≤ stop → IsIdle k (part_at p self.now) → IsSomeAnd result (λ u. k ≤ u) }
     {
-        idle_until(&self.pools.look(p), stop)
+        stays_idle_until(&self.pools.look(p), stop)
     }
 }

@@ -77,7 +77,7 @@ impl Tables {
     }
 
     /// How many stored priorities the last call on mutexes read as it raised some, of whatever partition: at most one
-    /// more than a partition has threads.
+    /// more than a partition may have threads.
     pub fn visited(&self) -> u32
         ensures { result ≤ THREAD_LIMIT + 1 }
     {

@@ -10,8 +10,9 @@ use ptk_gate_pools::Pools;
 use ptk_words::{Tick, read_word};
 
 /// The deadline of the timespec at the pointer (seconds as two words, low and high, one signed number, then a word of
-/// nanoseconds): the least tick that is not before its time, 0 for negative times, and a tick that never comes for one
-/// past the last. None where the nanoseconds are none from 0 to 999,999,999 (clock_nanosleep, EINVAL).
+/// nanoseconds): the least tick that is not before its time, 0 for negative times, and for a time past every run the
+/// tick after the last, which never comes. None where the nanoseconds are none from 0 to 999,999,999
+/// (clock_nanosleep, EINVAL).
 pub fn asked_deadline(pools: &Pools, pointer: u32) -> Option<Tick>
     requires room { pointer + 12 ≤ length pools.now.here.memory }
     ensures { result ≡ deadline_asked (timespec_at pools.now.here.memory pointer) }

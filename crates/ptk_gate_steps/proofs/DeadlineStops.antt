@@ -3,6 +3,7 @@ use Rattle.std.proofs.Common.{◌≡◌, ℕ, ◌+◌, ◌≤◌, ◌<◌, Bool,
 use Rattle.std.specs.Prelude.{Option, Some, None, IfSome, option_map, unwrap_or, min, filter, filter_map, nat_le}
 use Rattle.std.specs.List.{enumerate_from}
 use Rattle.std.proofs.lemmas.Bool.Decides.{leb_tells}
+use Rattle.std.proofs.lemmas.Bool.{lt-leb}
 use Rattle.ptk_words_model.specs.Withdrawal.{Expiry, expiry_of}
 use Rattle.ptk_clock.specs.ByThread.{earlier, least_deadline}
 use Rattle.ptk_gate_steps.specs.QuietStops.{before_deadline}
@@ -27,18 +28,12 @@ later_rest : (tick deadline : ℕ) (least : Option ℕ) → IsLater tick (earlie
 later_rest tick deadline None later = tt
 later_rest tick deadline (Some other) later = omega (arith, later)
 
-later_not_le : (tick deadline : ℕ) → tick < deadline → nat_le deadline tick ≡ false
-later_not_le tick deadline lt = elim (leb_tells deadline tick) [
-  | inl up ↦ (let le : deadline ≤ tick = up.1 in let no : ⊥ = omega (arith, lt, le) in absurd no)
-  | inr down ↦ down.0
-]
-
 -- where the least is later, none is due
 pub none_due : (tick i : ℕ) (deadlines : List (Option ℕ)) → IsLater tick (least_deadline deadlines) → due_from tick i deadlines ≡ []
 none_due tick i [] later = refl
 none_due tick i (None ∷ deadlines) later = none_due tick (i + 1) deadlines later
 none_due tick i (Some deadline ∷ deadlines) later =
-    let first : nat_le deadline tick ≡ false = later_not_le tick deadline (later_first tick deadline (least_deadline deadlines) later) in
+    let first : nat_le deadline tick ≡ false = lt-leb deadline tick (later_first tick deadline (least_deadline deadlines) later) in
     let rest : due_from tick (i + 1) deadlines ≡ [] = none_due tick (i + 1) deadlines (later_rest tick deadline (least_deadline deadlines) later) in
     ap (λ (b : Bool). cond b (record { thread = i; deadline = deadline } ∷ due_from tick (i + 1) deadlines) (due_from tick (i + 1) deadlines)) first ∙ rest
 

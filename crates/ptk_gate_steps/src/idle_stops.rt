@@ -11,7 +11,7 @@ use ptk_words::{Status, Tick};
 
 /// The tick up to which the partition has nothing to do, at most `stop`: no thread runs or is ready, and no input comes
 /// and no deadline is due before it. None where the partition is halted, or a thread runs or is ready.
-pub fn idle_until(look: &Look<'_>, stop: Tick) -> Option<Tick>
+pub fn stays_idle_until(look: &Look<'_>, stop: Tick) -> Option<Tick>
     requires well { IsWell look.now.limits look.now.part }
     ensures idle { IfSome result (λ u. (u ≤ stop) × IsIdle u look.now.part) }
     ensures full { (k : ℕ) → k ≤ stop → IsIdle k look.now.part → IsSomeAnd result (λ u. k ≤ u) }

@@ -33,8 +33,6 @@ readable_on pointer count rest i s e = rw e refl
 pub readable_off : (pointer count : ℕ) (rest : Row) (i : Invocation) (s : Part) → is_pointer s pointer count ≡ false → readable pointer count rest i s ≡ refusal EFAULT i s
 readable_off pointer count rest i s e = rw e refl
 
-pub ruleset reading = (readable_on, readable_off)
-
 -- the second of two pointers is looked at first
 pub readable_within : (i : Invocation) (s : Part) (rest : Row) → is_pointer s i.a1 12 ≡ true → readable i.a0 4 (readable i.a1 12 rest) i s ≡ readable i.a0 4 rest i s
 readable_within i s rest e = ap (λ (a : Answer). if not (is_pointer s i.a0 4) then refusal EFAULT i s else a) (readable_on i.a1 12 rest i s e)

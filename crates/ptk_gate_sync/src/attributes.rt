@@ -44,10 +44,7 @@ pub(crate) fn protocol_of(word: u32, ceiling: u32) -> Option<Protocol>
     match word {
         0 => Some(Protocol::NoProtocol),
         1 => Some(Protocol::Inherit),
-        2 => match named_priority(ceiling) {
-            Some(ceiling) => Some(Protocol::Protect(ceiling)),
-            None => None,
-        },
+        2 => Some(Protocol::Protect(named_priority(ceiling)?)),
         _ => None,
     }
 }

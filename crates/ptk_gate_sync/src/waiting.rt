@@ -95,14 +95,9 @@ fn named_both(pools: &mut Pools, i: &Invocation) -> Result<Named, Errno>
     ensures in_use { IfOk result (λ named. IsSome (pool_get pools.new.here.conditions named.condition)) }
     ensures moved { pools.new ≡ record pools.old { here = pools.new.here } }
 {
-    let condition = match condition_of_word(pools, i.a0) {
-        Ok(condition) => condition,
-        Err(errno) => return Err(errno),
-    };
-    match mutex_of_word(pools, i.a1) {
-        Ok(mutex) => Ok(Named { condition, mutex }),
-        Err(errno) => Err(errno),
-    }
+    let condition = condition_of_word(pools, i.a0)?;
+    let mutex = mutex_of_word(pools, i.a1)?;
+    Ok(Named { condition, mutex })
 }
 
 /// The wait without a deadline on what is named, or EPERM, or EINVAL.

@@ -3,8 +3,6 @@ use Rattle.std.proofs.Common.{◌≡◌, ℕ, [], ◌∷◌, ◌++◌, refl, sym
 use Rattle.std.specs.Prelude.{Bool, true, false, Option, Some, None}
 use Rattle.std.proofs.Math.ListN.{set}
 use Rattle.ptk_words.specs.Pools.{is_in}
-use Rattle.ptk_words.specs.Faults.{errno_number}
-use Rattle.ptk_words.specs.declared.faults.Errno.TheVariants.{ETIMEDOUT}
 use Rattle.ptk_words.specs.declared.threads.Wait.{Wait}
 use Rattle.ptk_words.specs.declared.threads.Wait.TheVariants.{SleepWait, MutexWait}
 use Rattle.ptk_words_parted.specs.Parts.{part_of}
@@ -19,7 +17,6 @@ use Rattle.ptk_words_sync_invariant.specs.Conditions.{IsNoWaiter}
 use Rattle.ptk_words_sync_invariant.proofs.Threads.{none_awaits, awaits_by}
 use Rattle.ptk_threads.specs.Table.{thread_in, with_changed}
 use Rattle.ptk_cond.specs.Rosters.{Rostered}
-use Rattle.ptk_cond.specs.Moves.{after_withdrawal}
 use Rattle.ptk_cond.specs.LockTables.{put_locks, with_threads, AreLocked, IsWaiter}
 use Rattle.ptk_cond.specs.Sound.{IsSound}
 use Rattle.ptk_cond.proofs.Apart.{apart_woken, other_waiter, waiting_kept}
@@ -109,10 +106,6 @@ timed_out p t wait a b is e = e ∙ ap (λ (w : Option Wait). put_syncs p (after
 
 pub slept : (p t deadline : ℕ) (a b : Rostered) → AreSyncedAt p a → wait_of (thread_in a.table p t) ≡ Some (SleepWait deadline) → b ≡ with_woken p t a → b ≡ put_syncs p (after_sync_timeout t (wait_of (thread_in a.table p t)) (of_part p a)) a
 slept p t deadline a b synced is e = timed_out p t (Some (SleepWait deadline)) a b is (as_syncs p a b (woken_of p t a) (slept_put p t deadline a b synced is e))
-
-pub withdrawn : (p t m : ℕ) (deadline : Option ℕ) (a b : Rostered) → wait_of (thread_in a.table p t) ≡ Some (MutexWait m deadline) → b ≡ put_locks p (after_withdrawal t m (Some (errno_number ETIMEDOUT)) (of_part p a).locks) a
-    → b ≡ put_syncs p (after_sync_timeout t (wait_of (thread_in a.table p t)) (of_part p a)) a
-withdrawn p t m deadline a b is e = timed_out p t (Some (MutexWait m deadline)) a b is (as_syncs p a b (after_withdrawal t m (Some (errno_number ETIMEDOUT)) (of_part p a).locks) e)
 
 -- a thread in no timed wait stays
 pub untimed : (p t : ℕ) (a : Rostered) → AreSyncedAt p a → after_sync_timeout t (wait_of (thread_in a.table p t)) (of_part p a) ≡ of_part p a → a ≡ put_syncs p (after_sync_timeout t (wait_of (thread_in a.table p t)) (of_part p a)) a

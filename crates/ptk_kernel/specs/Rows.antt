@@ -12,6 +12,6 @@ pub use Rattle.ptk_gate.specs.Stretches.{HasEnded, HasGone, IsCallLast}
 abbrev pub IsStillTo : ℕ → ℕ → ℕ → ℕ → Kept → Type 0
 IsStillTo p tick stop t kept = (thread : Thread) × IsQuiet (limits_at p kept) tick stop t thread (part_at p kept)
 
--- partition p is quiet from the tick up to the stop that was told of it (own)
+-- partition p is quiet from the tick up to the stop of `quiet`, with its thread running (own)
 abbrev pub IsStill : ℕ → ℕ → Quiet → Kept → Type 0
 IsStill p tick quiet kept = IsStillTo p tick quiet.stop quiet.thread kept

@@ -48,13 +48,13 @@ pub fn prepared_until(tables: &Tables, p: PartId, tick: Tick, stop: Tick) -> Opt
 }
 
 /// Steps of a quiet partition in a row, the first of them at the tick, each in place of a decision: plain ones, and
-/// quiet calls that end at its stop or before. Such a call replies at once, wakes nobody and changes no priority.
-/// Behind the first plain steps and the call that follows them, only such as begin before `until`: where that is the
-/// tick or before, a call is the last step. Returns the tick of the next decision, how many steps there were, and
-/// whether the step at that tick is known to be a call; the first tick, and nothing changes, where its next step is
-/// neither of the two. It ends before its stop and before `until` only there. The partition is as quiet as it was, up
-/// to that stop or a later one: the same thread runs, each thread waits as before, and a mutex that threads wait for
-/// keeps its owner. The trace has the steps as the newest. No other partition changes.
+/// quiet calls that end at its stop or before. Such a call replies at once, wakes nobody and changes no priority. The
+/// row ends before that stop only where the next step is neither of the two, or, behind a step, at `until` or later;
+/// where `until` is the tick or before, a call is the last step. Returns the tick of the next decision, how many steps
+/// there were, and whether the step at that tick is known to be a call; the first tick, and nothing changes, where the
+/// step at that one is neither of the two. The partition is as quiet as it was, up to that stop or a later one: the
+/// same thread runs, each thread waits as before, and a mutex that threads wait for keeps its owner. The trace has the
+/// steps as the newest. No other partition changes.
 pub fn run_quiet(
     tables: &mut Tables,
     p: PartId,
@@ -90,5 +90,5 @@ pub fn stays_idle_until(tables: &Tables, p: PartId, stop: Tick) -> Option<Tick>
     ensures idle { IfSome result (λ u. (u ≤ stop) × IsIdle u (part_at p tables.now)) }
     ensures full { (k : ℕ) → k ≤ stop → IsIdle k (part_at p tables.now) → IsSomeAnd result (λ u. k ≤ u) }
 {
-    tables.idle_until(p, stop)
+    tables.stays_idle_until(p, stop)
 }

@@ -6,7 +6,7 @@ use Rattle.ptk_words.specs.Faults.{is_active}
 use Rattle.ptk_words_batches.specs.Idle.{IsIdle}
 use Rattle.ptk_gate_steps.proofs.QuietStops.{event_stop_le}
 use Rattle.ptk_gate_steps.proofs.IdleStops.{idle_up, idle_no_later}
-use Rattle.ptk_gate_steps.proofs.idle_stops.idle_until.Goals as goal
+use Rattle.ptk_gate_steps.proofs.idle_stops.stays_idle_until.Goals as goal
 
 pub returns-in-None-clause-idle : goal.returns-in-None-clause-idle
 returns-in-None-clause-idle c =
