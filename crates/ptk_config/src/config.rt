@@ -4,13 +4,22 @@ use crate::fault::ConfigFault;
 use crate::reading::{are_known, array, number};
 use crate::section::{Section, read_section};
 use crate::stage::{Stage, read_later_stages};
-use crate::window::read_windows;
+use crate::window::{WINDOWS_TO, read_windows};
 use ptk_window::WindowPlan;
 use ptk_words::PartId;
 use ptk_words_windows::{Window, WindowFault};
 use std::alloc::{AllocError, Global};
 use std::marker::Model;
 use toml::{Table, Value};
+
+/// The least number of ticks of a frame.
+pub const FRAME_FROM: u64 = 16;
+
+/// The greatest number of ticks of a frame.
+pub const FRAME_TO: u64 = 1_000_000;
+
+/// The greatest number of partitions of a configuration.
+pub const PARTITIONS_TO: usize = 8;
 
 /// The sections, by number, and the plan of their windows.
 pub struct Config {
@@ -153,10 +162,10 @@ pub fn stages_given<'a>(
 fn read_table(alloc: Global, table: &Table) -> Result<Config, ConfigFault>
     ensures { MemoryAside (λ a. a) result (configuration (table_view table.now)) }
 {
-    let frame = number(table, "frame", 16, 1_000_000)?;
-    let values = array(table, "partition", 1, 8)?;
+    let frame = number(table, "frame", FRAME_FROM, FRAME_TO)?;
+    let values = array(table, "partition", 1, PARTITIONS_TO)?;
     let sections = read_sections(alloc, values)?;
-    let values = array(table, "window", 0, 64)?;
+    let values = array(table, "window", 0, WINDOWS_TO)?;
     let windows = read_windows(alloc, values, &sections)?;
     let later = read_later_stages(alloc, table, &sections)?;
     if !are_known(table, &["frame", "partition", "window", "plan"]) {
@@ -173,8 +182,8 @@ fn read_table(alloc: Global, table: &Table) -> Result<Config, ConfigFault>
     }
 }
 
-/// Reads a configuration, a TOML document. The first fault in the order of the checks is answered, from a text that is
-/// no document to a fault of the windows; `ConfigFault::Memory` comes only where memory was refused.
+/// Reads a configuration, a TOML document. Returns the first fault in the order of the checks, from a text that is no
+/// document to a fault of the windows; `ConfigFault::Memory` comes only where memory was refused.
 pub fn read_config(alloc: Global, text: &str) -> Result<Config, ConfigFault>
     ensures values { IfOk result (λ config. configuration_in text.now ≡ Ok config) }
     ensures refused { IfErr result (λ fault. fault ≢ ConfigFault.Memory → configuration_in text.now ≡ Err fault) }

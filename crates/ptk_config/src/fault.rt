@@ -11,20 +11,28 @@ use thiserror::Error;
 /// Why a configuration is refused.
 #[derive(Clone, Copy, Debug, PartialEq, Eq, Error)]
 pub enum ConfigFault {
+    /// 1: the text is no TOML document.
     #[error("the text is no TOML document")]
     Text,
+    /// 2: a key is missing.
     #[error("a key is missing")]
     MissingKey,
+    /// 3: a value has the wrong type.
     #[error("a value has the wrong type")]
     WrongType,
+    /// 4: a value is out of range.
     #[error("a value is out of range")]
     OutOfRange,
+    /// 5: a key is unknown.
     #[error("a key is unknown")]
     UnknownKey,
+    /// 6: two partitions have one name.
     #[error("two partitions have one name")]
     DoubledName,
+    /// 7: the windows are refused, for this fault.
     #[error("the windows are refused: {0}")]
     Window(WindowFault),
+    /// 8: out of memory.
     #[error("out of memory")]
     Memory,
 }

@@ -15,6 +15,9 @@ use std::alloc::{AllocError, Global};
 use std::marker::Model;
 use toml::{Table, Value};
 
+/// The greatest number of bytes of a section's inputs.
+pub const INPUT_TO: usize = 65536;
+
 /// The bytes that come in at a tick.
 #[derive(Drop)]
 pub(crate) struct Input {
@@ -72,7 +75,7 @@ fn read_inputs(alloc: Global, values: &[Value]) -> Result<Vec<Input>, ConfigFaul
     let mut last = 0;
     let mut count = 0;
     for value in values {
-        let input = read_input(alloc, value, last, 65536 - count)?;
+        let input = read_input(alloc, value, last, INPUT_TO - count)?;
         last = input.tick;
         count += input.bytes.len();
         inputs.push(input)?;

@@ -24,14 +24,21 @@ pub use config::{Config, read_config};
 
 /// The reading of a document part by part, for the crate that finds the place of a fault.
 pub mod parts {
-    pub use crate::config::{any_doubled, read_sections, shares_name, stages_given};
+    pub use crate::config::{
+        FRAME_FROM, FRAME_TO, PARTITIONS_TO, any_doubled, read_sections, shares_name, stages_given,
+    };
+    pub use crate::input::INPUT_TO;
     pub use crate::reading::{
         are_known, array, counted, integer, is_among, items, members, number, required, text,
         value_at,
     };
-    pub use crate::section::{KEYS, read_image, read_name, sixteens, stack};
-    pub use crate::stage::{Stage, read_later_stages};
-    pub use crate::window::read_windows;
+    pub use crate::section::{
+        CONDITIONS_TO, INTERVAL_TO, KEYS, KEYS_TO, MEMORY_FROM, MEMORY_TO, MUTEXES_TO, OUTPUT_TO,
+        RING_TO, STACK_FROM, STACK_TO, THREADS_TO, TRACE_TO, read_image, read_name, sixteens,
+        stack,
+    };
+    pub use crate::stage::{LAST_FROM, PLANS_TO, Stage, read_later_stages};
+    pub use crate::window::{LENGTH_TO, START_TO, WINDOWS_TO, read_windows};
 }
 
 pub use fault::ConfigFault;

@@ -23,10 +23,7 @@ pub fn value_at<'a>(table: &'a Table, key: &str) -> Option<&'a Value>
 pub fn required<'a>(table: &'a Table, key: &str) -> Result<&'a Value, ConfigFault>
     ensures { seen (λ v. view v.now) result ≡ required key.now (table_view table.now) }
 {
-    match value_at(table, key) {
-        Some(value) => Ok(value),
-        None => Err(ConfigFault::MissingKey),
-    }
+    value_at(table, key).ok_or(ConfigFault::MissingKey)
 }
 
 /// The number that a value states, within these bounds.
@@ -47,30 +44,21 @@ pub fn integer(value: &Value, low: u64, high: u64) -> Result<u64, ConfigFault>
 pub fn text(value: &Value) -> Result<&str, ConfigFault>
     ensures { seen (λ s. s.now) result ≡ text (view value.now) }
 {
-    match value.as_str() {
-        Some(text) => Ok(text),
-        None => Err(ConfigFault::WrongType),
-    }
+    value.as_str().ok_or(ConfigFault::WrongType)
 }
 
 /// The array that a value states.
 pub fn items(value: &Value) -> Result<&Array, ConfigFault>
     ensures { seen (λ v. array_view v.now) result ≡ items (view value.now) }
 {
-    match value.as_array() {
-        Some(values) => Ok(values),
-        None => Err(ConfigFault::WrongType),
-    }
+    value.as_array().ok_or(ConfigFault::WrongType)
 }
 
 /// The table that a value states.
 pub fn members(value: &Value) -> Result<&Table, ConfigFault>
     ensures { seen (λ t. table_view t.now) result ≡ members (view value.now) }
 {
-    match value.as_table() {
-        Some(table) => Ok(table),
-        None => Err(ConfigFault::WrongType),
-    }
+    value.as_table().ok_or(ConfigFault::WrongType)
 }
 
 /// The number at a key, within these bounds.

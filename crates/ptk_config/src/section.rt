@@ -12,46 +12,46 @@ ghost use Rattle.ptk_config.specs.Sections.{is_name, is_name_byte, name, image_o
 use crate::fault::ConfigFault;
 use crate::input::read_arrivals;
 use crate::reading::{are_known, members, number, required, text, value_at};
-use ptk_words::{Arrival, Limits};
+use ptk_words::{Arrival, Limits, THREAD_LIMIT};
 use std::alloc::Global;
 use std::marker::Model;
 use toml::{Table, Value};
 
 /// The least number of bytes of a partition's memory.
-const MEMORY_FROM: u64 = 4096;
+pub const MEMORY_FROM: u64 = 4096;
 
 /// The greatest number of bytes of a partition's memory.
-const MEMORY_TO: u64 = 1_048_576;
+pub const MEMORY_TO: u64 = 1_048_576;
 
-/// The greatest number of threads.
-const THREADS_TO: u64 = 32;
+/// The greatest number of threads of a partition.
+pub const THREADS_TO: u64 = THREAD_LIMIT as u64;
 
 /// The least number of bytes of a default stack.
-const STACK_FROM: u64 = 16;
+pub const STACK_FROM: u64 = 16;
 
 /// The greatest number of bytes of a default stack.
-const STACK_TO: u64 = 65536;
+pub const STACK_TO: u64 = 65536;
 
-/// The greatest number of mutexes.
-const MUTEXES_TO: u64 = 64;
+/// The greatest number of mutexes of a partition.
+pub const MUTEXES_TO: u64 = 64;
 
-/// The greatest number of condition variables.
-const CONDITIONS_TO: u64 = 32;
+/// The greatest number of condition variables of a partition.
+pub const CONDITIONS_TO: u64 = 32;
 
-/// The greatest number of keys.
-const KEYS_TO: u64 = 32;
+/// The greatest number of keys of a partition, under which each thread has values of its own.
+pub const KEYS_TO: u64 = 32;
 
 /// The greatest number of ticks of a round-robin interval.
-const INTERVAL_TO: u64 = 1_000_000;
+pub const INTERVAL_TO: u64 = 1_000_000;
 
 /// The greatest number of bytes that the input ring keeps.
-const RING_TO: u64 = 256;
+pub const RING_TO: u64 = 256;
 
 /// The greatest number of bytes of output that are kept.
-const OUTPUT_TO: u64 = 65536;
+pub const OUTPUT_TO: u64 = 65536;
 
 /// The greatest number of entries that the trace keeps.
-const TRACE_TO: u64 = 1024;
+pub const TRACE_TO: u64 = 1024;
 
 /// What a partition is made from.
 pub struct Section {
@@ -102,10 +102,7 @@ impl Section {
     pub fn image(&self) -> Option<&str>
         ensures { option_map (λ s. s.now) result ≡ self.now.image }
     {
-        match &self.image {
-            Some(image) => Some(image.as_str()),
-            None => None,
-        }
+        self.image.as_deref()
     }
 
     /// Its numbers, all in their ranges.

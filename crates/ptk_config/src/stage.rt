@@ -9,14 +9,17 @@ ghost use Rattle.ptk_config.specs.Windows.{AreLater, stage, stage_in, stages_of}
 use crate::fault::ConfigFault;
 use crate::reading::{are_known, array, counted, items, members, number, value_at};
 use crate::section::Section;
-use crate::window::read_windows;
+use crate::window::{WINDOWS_TO, read_windows};
 use ptk_words_windows::Window;
 use std::alloc::Global;
 use std::marker::Model;
 use toml::{Table, Value};
 
 /// The number of the last frame from which a plan may hold.
-const LAST_FROM: u64 = 68_719_476_736;
+pub const LAST_FROM: u64 = 68_719_476_736;
+
+/// The greatest number of plans besides the windows at the top.
+pub const PLANS_TO: usize = 15;
 
 /// Windows that hold from the frame of this number on.
 #[derive(Drop)]
@@ -57,7 +60,7 @@ fn read_stage(
 {
     let table = members(value)?;
     let from = number(table, "from", low, LAST_FROM)?;
-    let values = array(table, "window", 0, 64)?;
+    let values = array(table, "window", 0, WINDOWS_TO)?;
     let windows = read_windows(alloc, values, sections)?;
     if are_known(table, &["from", "window"]) {
         Ok(Stage { from, windows })
@@ -103,7 +106,7 @@ pub fn read_later_stages(
     match value_at(table, "plan") {
         Some(value) => {
             let values = items(value)?;
-            let values = counted(values, 0, 15)?;
+            let values = counted(values, 0, PLANS_TO)?;
             read_stages(alloc, values, sections)
         }
         None => Ok(Vec::new(alloc)),

@@ -14,6 +14,15 @@ use ptk_words_windows::Window;
 use std::alloc::Global;
 use toml::Value;
 
+/// The greatest number of windows, of those at the top and of those of a plan.
+pub const WINDOWS_TO: usize = 64;
+
+/// The last tick of a frame at which a window may start.
+pub const START_TO: u64 = 999_999;
+
+/// The greatest number of ticks of a window.
+pub const LENGTH_TO: u64 = 1_000_000;
+
 /// The place of the first section of this name, None where no section has it.
 pub fn place_named(sections: &[Section], name: &str) -> Option<usize>
     ensures place { result ≡ position (λ s. bytes_eq s.name name.now) sections.now }
@@ -39,8 +48,8 @@ fn read_window(value: &Value, sections: &[Section]) -> Result<Window, ConfigFaul
     ensures { result ≡ window sections.now (view value.now) }
 {
     let table = members(value)?;
-    let start = number(table, "start", 0, 999_999)?;
-    let length = number(table, "length", 1, 1_000_000)?;
+    let start = number(table, "start", 0, START_TO)?;
+    let length = number(table, "length", 1, LENGTH_TO)?;
     let name = required(table, "partition")?;
     let name = text(name)?;
     if are_known(table, &["start", "length", "partition"]) {

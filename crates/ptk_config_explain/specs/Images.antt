@@ -4,8 +4,8 @@ use Rattle.std.specs.List.{concat}
 use Rattle.std.specs.Option.{option_or}
 use Rattle.ptk_words.specs.declared.sections.Limits.{Limits}
 use Rattle.ptk_words.specs.declared.faults.ImageFault.{ImageFault}
-use Rattle.ptk_words.specs.declared.faults.ImageFault.TheVariants as image
 use Rattle.ptk_words.specs.Image.{ImageParts, image_of}
+use Rattle.ptk_image.specs.FaultWords.{image_fault_words}
 use Rattle.ptk_image.specs.NamedFiles.{NamedFile, content_of}
 use Rattle.ptk_config.specs.Sections.{Section}
 use Rattle.ptk_words.specs.Names.{newline}
@@ -67,16 +67,6 @@ abbrev pub first_refused : List Outcome → Option ℕ
 first_refused outcomes = option_or (position is_missing outcomes) (position is_refused outcomes)
 
 -- ---- words
-
--- why bytes are no image (own)
-abbrev pub image_fault_words : ImageFault → List ℕ
-image_fault_words image.Short = codes "the image is shorter than its header"
-image_fault_words image.Magic = codes "the image does not begin with PTKI"
-image_fault_words image.Version = codes "the image has an unknown version"
-image_fault_words image.Length = codes "the image has other lengths than its header says"
-image_fault_words image.Entry = codes "the entry of the image is misplaced"
-image_fault_words image.Memory = codes "out of memory"
-image_fault_words image.Unfit = codes "the image does not fit into its partition"
 
 -- what stands behind the number of free bytes (own)
 abbrev pub bytes_free : List ℕ

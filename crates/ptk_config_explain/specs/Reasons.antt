@@ -17,7 +17,7 @@ use Rattle.ptk_config_places.specs.declared.place.TablePlace.TheVariants as at
 use Rattle.ptk_config_places.specs.declared.place.Place.{Place}
 use Rattle.ptk_config_places.specs.declared.place.Place.TheVariants as place
 use Rattle.ptk_config_places.specs.declared.place.Refusal.{Refusal}
-use Rattle.ptk_config_places.specs.Lookup.{◌>>=◌, table_of, number_at, text_at, count_at, value_there, section_of}
+use Rattle.ptk_config_places.specs.Lookup.{◌and_then◌ as ◌>>=◌, table_of, number_at, text_at, count_at, value_there, section_of}
 use Rattle.ptk_words.specs.Names.{newline}
 use Rattle.ptk_config_explain.specs.Words.{outside, no_multiple, large_stacks, miscounted, other_kind, unknown_key, no_section, same_name, short, past_frame, overlaps, refused, place_words}
 
@@ -193,26 +193,40 @@ name_at document n = text_at document (at.Section n) key.Name
 abbrev pub name_words : Members → ℕ → List ℕ
 name_words document n = words_of same_name (first_above (λ other. are_same (name_at document other) (name_at document n)) n 9)
 
--- the first tick of a window, and the first after it (own)
-abbrev pub span_at : Members → Option ℕ → ℕ → ℕ × ℕ
-span_at document plan n = (
-  unwrap_or (number_at document (at.Window plan n) key.Start) 0,
-  unwrap_or (number_at document (at.Window plan n) key.Start) 0 + unwrap_or (number_at document (at.Window plan n) key.Length) 0,
-)
+-- the first tick of a window, and the first after it, None where a number is lacking (own)
+abbrev pub span_at : Members → Option ℕ → ℕ → Option (ℕ × ℕ)
+span_at document plan n = do
+  start ← number_at document (at.Window plan n) key.Start
+  ticks ← number_at document (at.Window plan n) key.Length
+  Some (start, start + ticks)
 
 -- a tick lies in both (own)
-abbrev pub are_overlapping : ℕ × ℕ → ℕ × ℕ → Bool
-are_overlapping a b = nat_lt a.0 b.1 && nat_lt b.0 a.1
+abbrev pub are_overlapping : Option (ℕ × ℕ) → Option (ℕ × ℕ) → Bool
+are_overlapping (Some a) (Some b) = nat_lt a.0 b.1 && nat_lt b.0 a.1
+are_overlapping a b = false
 
 -- the first later window with a common tick, of 64 (own)
 abbrev pub overlap_words : Members → Option ℕ → ℕ → List ℕ
 overlap_words document plan n =
     words_of overlaps (first_above (λ other. are_overlapping (span_at document plan n) (span_at document plan other)) n 65)
 
+-- the words of a window of too few ticks, None where a number is lacking (own)
+abbrev pub short_at : Members → Option ℕ → ℕ → Option (List ℕ)
+short_at document plan n = do
+  span ← span_at document plan n
+  Some (short (span.1 - span.0))
+
+-- the words of a window that ends after the frame, None where a number is lacking (own)
+abbrev pub past_frame_at : Members → Option ℕ → ℕ → Option (List ℕ)
+past_frame_at document plan n = do
+  span ← span_at document plan n
+  frame ← number_at document at.Top key.Frame
+  Some (past_frame span.1 frame)
+
 -- why a window is refused (own)
 abbrev pub window_fault_words : Members → Option ℕ → ℕ → WindowFault → List ℕ
-window_fault_words document plan n window.Short = short ((span_at document plan n).1 - (span_at document plan n).0)
-window_fault_words document plan n window.PastFrame = past_frame (span_at document plan n).1 (unwrap_or (number_at document at.Top key.Frame) 0)
+window_fault_words document plan n window.Short = unwrap_or (short_at document plan n) refused
+window_fault_words document plan n window.PastFrame = unwrap_or (past_frame_at document plan n) refused
 window_fault_words document plan n window.UnknownPartition = words_of (λ name. no_section (shown name)) (text_at document (at.Window plan n) key.Partition)
 window_fault_words document plan n window.Overlap = overlap_words document plan n
 window_fault_words document plan n window.Empty = codes "no window"

@@ -1,4 +1,4 @@
-//! What the images of an accepted configuration amount to, and the first that is refused.
+//! The verdicts on the images of an accepted configuration, and the first image that is refused.
 
 ghost use Rattle.std.specs.Prelude.{◌≡◌, ◌<◌, Some, IfOk, IfErr, IfSome, OnOk, length, map, position};
 ghost use Rattle.std.specs.Io.KnownBytes.{Appends};
@@ -7,7 +7,7 @@ ghost use Rattle.ptk_config_explain.specs.Images as images;
 
 use crate::refusal::ExplainFault;
 use ptk_config::Section;
-use ptk_image::{Files, Image, read_image};
+use ptk_image::{Files, Image, image_fault_words, read_image};
 use ptk_words::{ImageFault, Limits};
 use std::alloc::{AllocError, Global};
 use std::fmt;
@@ -63,21 +63,6 @@ impl Outcome {
     }
 }
 
-/// Why bytes are no image, in words.
-fn words_of(fault: ImageFault) -> &'static str
-    ensures { result.now ≡ images.image_fault_words fault }
-{
-    match fault {
-        ImageFault::Short => "the image is shorter than its header",
-        ImageFault::Magic => "the image does not begin with PTKI",
-        ImageFault::Version => "the image has an unknown version",
-        ImageFault::Length => "the image has other lengths than its header says",
-        ImageFault::Entry => "the entry of the image is misplaced",
-        ImageFault::Memory => "out of memory",
-        ImageFault::Unfit => "the image does not fit into its partition",
-    }
-}
-
 impl fmt::Display for Outcome {
     ghost output = { λ outcome. Some (images.outcome_words outcome) };
 
@@ -85,7 +70,7 @@ impl fmt::Display for Outcome {
         match *self {
             Outcome::Unnamed { free } => write!(f, "{free} bytes free below the stacks"),
             Outcome::Missing => f.write_str("no such file"),
-            Outcome::Refused(fault) => f.write_str(words_of(fault)),
+            Outcome::Refused(fault) => f.write_str(image_fault_words(fault)),
             Outcome::Unfit { filled, room } => {
                 write!(f, "{filled} bytes where {room} are below the stacks")
             }

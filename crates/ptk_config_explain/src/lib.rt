@@ -13,8 +13,8 @@
 //!   the reader stopped (`put_no_document`), which for a caller is some byte of the text, since the crate `toml` says
 //!   no more of it.
 //!
-//! Below are the configuration (`ptk_config`) with the places of its faults (`ptk_config_places`), images (`ptk_image`)
-//! and the files (`ptk_image`); above is the program. No clause is costly to prove.
+//! Below are the configuration (`ptk_config`) with the places of its faults (`ptk_config_places`), and images and files
+//! (`ptk_image`); above is the program. No clause is costly to prove.
 
 mod explanation;
 mod images;

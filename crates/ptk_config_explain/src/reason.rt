@@ -1,6 +1,6 @@
 //! Why what stands at a place is refused, found in the document.
 
-ghost use Rattle.std.specs.Prelude.{◌≡◌, ◌-◌, ◌<◌, ◌^◌, min, map, not, unwrap_or, option_map, string_bytes};
+ghost use Rattle.std.specs.Prelude.{◌≡◌, ◌-◌, ◌^◌, Some, min, map, not, unwrap_or, option_map, string_bytes};
 ghost use Rattle.std.specs.List.{list_all, list_any, find};
 ghost use Rattle.std.specs.BTreeMap.{keys};
 ghost use Rattle.std.specs.Str.{bytes_eq};
@@ -11,7 +11,11 @@ ghost use Rattle.ptk_config_explain.specs.Reasons as why;
 
 use crate::words::Reason;
 use ptk_config::ConfigFault;
-use ptk_config::parts::{KEYS, is_among};
+use ptk_config::parts::{
+    CONDITIONS_TO, FRAME_FROM, FRAME_TO, INPUT_TO, INTERVAL_TO, KEYS, KEYS_TO, LAST_FROM,
+    LENGTH_TO, MEMORY_FROM, MEMORY_TO, MUTEXES_TO, OUTPUT_TO, PARTITIONS_TO, PLANS_TO, RING_TO,
+    STACK_FROM, STACK_TO, START_TO, THREADS_TO, TRACE_TO, WINDOWS_TO, is_among,
+};
 use ptk_config_places::{
     Key, Place, Refusal, TablePlace, count_at, number_at, section_of, table_of, text_at,
     value_there,
@@ -114,12 +118,12 @@ fn bounds_after(document: &Table, table: TablePlace, key: Key) -> (u64, u64)
         }
         (TablePlace::Input(section, input), Key::Bytes) => {
             let before = bytes_in(document, section, input.saturating_sub(1));
-            (0, 65536u64.saturating_sub(before))
+            (0, (INPUT_TO as u64).saturating_sub(before))
         }
         (TablePlace::Plan(plan), Key::From) => {
             let before = TablePlace::Plan(plan.saturating_sub(1));
             let last = number_at(document, before, Key::From).unwrap_or(0);
-            (last + 1, 68_719_476_736)
+            (last + 1, LAST_FROM)
         }
         _ => (0, 0),
     }
@@ -130,20 +134,22 @@ fn bounds(document: &Table, table: TablePlace, key: Key) -> (u64, u64)
     ensures { result ≡ why.bounds (table_view document.now) table key }
 {
     match key {
-        Key::Frame => (16, 1_000_000),
-        Key::Partition => (1, 8),
-        Key::Window => (0, 64),
-        Key::Plan => (0, 15),
-        Key::Memory => (4096, 1_048_576),
-        Key::Threads => (1, 32),
-        Key::Stack => (16, 65536),
-        Key::Mutexes => (0, 64),
-        Key::Conditions | Key::Keys => (0, 32),
-        Key::Interval | Key::Length => (1, 1_000_000),
-        Key::Ring => (1, 256),
-        Key::Output => (0, 65536),
-        Key::Trace => (0, 1024),
-        Key::Start => (0, 999_999),
+        Key::Frame => (FRAME_FROM, FRAME_TO),
+        Key::Partition => (1, PARTITIONS_TO as u64),
+        Key::Window => (0, WINDOWS_TO as u64),
+        Key::Plan => (0, PLANS_TO as u64),
+        Key::Memory => (MEMORY_FROM, MEMORY_TO),
+        Key::Threads => (1, THREADS_TO),
+        Key::Stack => (STACK_FROM, STACK_TO),
+        Key::Mutexes => (0, MUTEXES_TO),
+        Key::Conditions => (0, CONDITIONS_TO),
+        Key::Keys => (0, KEYS_TO),
+        Key::Interval => (1, INTERVAL_TO),
+        Key::Length => (1, LENGTH_TO),
+        Key::Ring => (1, RING_TO),
+        Key::Output => (0, OUTPUT_TO),
+        Key::Trace => (0, TRACE_TO),
+        Key::Start => (0, START_TO),
         Key::At | Key::Bytes | Key::From => bounds_after(document, table, key),
         Key::Name | Key::Image | Key::Input => (0, 0),
     }
@@ -292,10 +298,8 @@ fn unknown_in<'a>(values: &'a Table, known: &[&str]) -> Option<&'a String>
 fn first_unknown<'a>(values: &'a Table, known: &[&str]) -> Option<&'a str>
     ensures { words.read result ≡ why.first_unknown (map (λ k. k.now) known.now) (table_view values.now) }
 {
-    match unknown_in(values, known) {
-        Some(key) => Some(key.as_str()),
-        None => None,
-    }
+    let key = unknown_in(values, known)?;
+    Some(key.as_str())
 }
 
 /// The reason where a table has a key that it may not have.
@@ -347,31 +351,35 @@ fn same_name(document: &Table, section: usize) -> Reason<'_>
     }
 }
 
-/// The number at a key of a window, 0 where there is none.
-fn window_number(document: &Table, plan: Option<usize>, window: usize, key: Key) -> u64
-    ensures value { result ≡ unwrap_or (found.number_at (table_view document.now) (TablePlace.Window plan window) key) 0 }
-    ensures small { result < 2 ^ 63 }
+/// The ticks of a window: the first of them, and the first after it.
+#[derive(Clone, Copy)]
+struct Span {
+    start: u64,
+    end: u64,
+}
+
+/// The ticks of a window, None where it lacks a number.
+fn span_at(document: &Table, plan: Option<usize>, window: usize) -> Option<Span>
+    ensures { option_map (λ s. (s.start, s.end)) result ≡ why.span_at (table_view document.now) plan window }
 {
-    match number_at(document, TablePlace::Window(plan, window), key) {
-        Some(number) => number,
-        None => 0,
+    let table = TablePlace::Window(plan, window);
+    let start = number_at(document, table, Key::Start)?;
+    let length = number_at(document, table, Key::Length)?;
+    Some(Span {
+        start,
+        end: start + length,
+    })
+}
+
+/// Whether a window has a tick of this span.
+fn is_overlapping(document: &Table, plan: Option<usize>, window: usize, here: &Span) -> bool
+    ensures { result
+        ≡ why.are_overlapping (Some (here.now.start, here.now.end)) (why.span_at (table_view document.now) plan window) }
+{
+    match span_at(document, plan, window) {
+        Some(there) => here.start < there.end && there.start < here.end,
+        None => false,
     }
-}
-
-/// The first tick of a window and the first after it, 0 and 0 where there is none.
-fn span(document: &Table, plan: Option<usize>, window: usize) -> (u64, u64)
-    ensures { result ≡ why.span_at (table_view document.now) plan window }
-{
-    let start = window_number(document, plan, window, Key::Start);
-    let length = window_number(document, plan, window, Key::Length);
-    (start, start + length)
-}
-
-/// Whether a tick lies in both spans.
-fn are_overlapping(one: (u64, u64), other: (u64, u64)) -> bool
-    ensures { result ≡ why.are_overlapping one other }
-{
-    one.0 < other.1 && other.0 < one.1
 }
 
 /// The first later window that has a tick of this one.
@@ -382,8 +390,8 @@ fn overlapping(document: &Table, plan: Option<usize>, window: usize) -> Option<u
     if window >= BEHIND_WINDOWS {
         return None;
     }
-    let here = span(document, plan, window);
-    (window + 1..BEHIND_WINDOWS).find(|other| are_overlapping(here, span(document, plan, *other)))
+    let here = span_at(document, plan, window)?;
+    (window + 1..BEHIND_WINDOWS).find(|other| is_overlapping(document, plan, *other, &here))
 }
 
 /// The reason where a later window has a tick of this one.
@@ -406,13 +414,28 @@ fn no_section(document: &Table, table: TablePlace) -> Reason<'_>
     }
 }
 
-/// The reason where a window ends after its frame.
-fn past_frame(document: &Table, end: u64) -> Reason<'_>
-    ensures { words.reason_words result ≡ words.past_frame end (unwrap_or (found.number_at (table_view document.now) TablePlace.Top Key.Frame) 0) }
+/// The reason where a window has too few ticks.
+fn short(document: &Table, plan: Option<usize>, window: usize) -> Reason<'_>
+    ensures { words.reason_words result ≡ unwrap_or (why.short_at (table_view document.now) plan window) words.refused }
 {
-    match number_at(document, TablePlace::Top, Key::Frame) {
-        Some(frame) => Reason::PastFrame(end, frame),
-        None => Reason::PastFrame(end, 0),
+    let table = TablePlace::Window(plan, window);
+    let start = number_at(document, table, Key::Start);
+    let length = number_at(document, table, Key::Length);
+    match (start, length) {
+        (Some(_), Some(length)) => Reason::Short(length),
+        _ => Reason::None,
+    }
+}
+
+/// The reason where a window ends after the frame.
+fn past_frame(document: &Table, plan: Option<usize>, window: usize) -> Reason<'_>
+    ensures { words.reason_words result ≡ unwrap_or (why.past_frame_at (table_view document.now) plan window) words.refused }
+{
+    let span = span_at(document, plan, window);
+    let frame = number_at(document, TablePlace::Top, Key::Frame);
+    match (span, frame) {
+        (Some(span), Some(frame)) => Reason::PastFrame(span.end, frame),
+        _ => Reason::None,
     }
 }
 
@@ -425,10 +448,9 @@ fn window_reason(
 ) -> Reason<'_>
     ensures { words.reason_words result ≡ why.window_fault_words (table_view document.now) plan window fault }
 {
-    let (start, end) = span(document, plan, window);
     match fault {
-        WindowFault::Short => Reason::Short(end.saturating_sub(start)),
-        WindowFault::PastFrame => past_frame(document, end),
+        WindowFault::Short => short(document, plan, window),
+        WindowFault::PastFrame => past_frame(document, plan, window),
         WindowFault::UnknownPartition => no_section(document, TablePlace::Window(plan, window)),
         WindowFault::Overlap => overlap(document, plan, window),
         WindowFault::Empty => Reason::NoWindow,

@@ -21,8 +21,10 @@ use toml::Table;
 /// Why no explanation was given.
 #[derive(Clone, Copy, Debug, PartialEq, Eq, Error)]
 pub enum ExplainFault {
+    /// Out of memory.
     #[error("out of memory")]
     Memory,
+    /// The writer failed.
     #[error("write failed")]
     Write,
 }

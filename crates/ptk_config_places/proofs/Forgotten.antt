@@ -91,10 +91,10 @@ of_bytes here ds =
     (λ done n d. of_alone (λ a. a) (integer 0 255 d) _ (of_at (place.Item here key.Bytes n) (integer 0 255 d))) [] 1 ds
 
 abbrev seen_inputs : List Input → InputsBefore
-seen_inputs is = record { last = last_tick is; count = byte_count is }
+seen_inputs is = record { from = last_tick is; count = byte_count is }
 
 -- one more input
-seen_more : (done : List Input) (i : Input) (n : ℕ) → length i.bytes ≡ n → seen_inputs (done ++ i ∷ []) ≡ record { last = i.tick; count = byte_count done + n }
+seen_more : (done : List Input) (i : Input) (n : ℕ) → length i.bytes ≡ n → seen_inputs (done ++ i ∷ []) ≡ record { from = i.tick; count = byte_count done + n }
 seen_more done i n is = rw (last_tick-push done i, byte_count-push done i, is)
 
 of_input : (s : ℕ) (done : List Input) (n : ℕ) (d : Data) → Reads (λ i. seen_inputs (done ++ i ∷ [])) (input_in done d) (input_walk s n (seen_inputs done) d)
@@ -104,7 +104,7 @@ of_input s done n d =
     bind (λ a. a) _ _ _ _ _ (of_at _ (array (codes "bytes") 0 (65536 - byte_count done) t)) (λ values is_array.
     bind (λ _. tt) _ _ _ _ _ (of_bytes (table.Input s n) values) (λ bytes is_bytes.
     of_only (place.Table (table.Input s n)) (codes "at" ∷ codes "bytes" ∷ []) t (λ i. seen_inputs (done ++ i ∷ []))
-    (record { tick = tick; bytes = bytes }) (record { last = tick; count = byte_count done + count_of values })
+    (record { tick = tick; bytes = bytes }) (record { from = tick; count = byte_count done + count_of values })
     (seen_more done (record { tick = tick; bytes = bytes }) (count_of values) (omega (arith, each_after-count (λ _. integer 0 255) [] values bytes is_bytes)))))))
 
 of_inputs : (s : ℕ) (value : Option Data) → Reads (λ _. tt) (inputs_of value) (inputs_walk s value)

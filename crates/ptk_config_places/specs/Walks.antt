@@ -19,17 +19,17 @@ bytes_walk table ds = each_numbered (λ n _ d. refusal_alone (at (Item table key
 abbrev pub input_walk : ℕ → ℕ → InputsBefore → Data → Placed InputsBefore
 input_walk section number before d = do
   t ← at (Table (Input section number)) (members d)
-  tick ← number_within (Input section number) key.At before.last LAST_TICK t
+  tick ← number_within (Input section number) key.At before.from LAST_TICK t
   values ← array_within (Input section number) key.Bytes 0 (65536 - before.count) t
   bytes ← bytes_walk (Input section number) values
-  at (Table (Input section number)) (only (codes "at" ∷ codes "bytes" ∷ []) t (record { last = tick; count = before.count + count_of values }))
+  at (Table (Input section number)) (only (codes "at" ∷ codes "bytes" ∷ []) t (record { from = tick; count = before.count + count_of values }))
 
 -- the inputs of a section, none where the key is missing (own)
 abbrev pub inputs_walk : ℕ → Option Data → Placed (Unit {0})
 inputs_walk section None = Ok tt
 inputs_walk section (Some d) = do
   ds ← at (Key (Section section) key.Input) (items d)
-  refusal_alone (each_numbered (input_walk section) 1 (record { last = 0; count = 0 }) ds)
+  refusal_alone (each_numbered (input_walk section) 1 (record { from = 0; count = 0 }) ds)
 
 -- the numbers of a section (own)
 abbrev pub limits_walk : ℕ → Members → Placed (Unit {0})

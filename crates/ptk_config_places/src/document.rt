@@ -12,7 +12,8 @@ use crate::place::{Key, Place, Refusal, TablePlace};
 use crate::walk::{array_within, known_at, number_within, walk_plans, walk_sections, walk_windows};
 use crate::windows::{before_twin, plan_place};
 use ptk_config::parts::{
-    any_doubled, read_later_stages, read_sections, read_windows, stages_given,
+    FRAME_FROM, FRAME_TO, PARTITIONS_TO, WINDOWS_TO, any_doubled, read_later_stages, read_sections,
+    read_windows, stages_given,
 };
 use ptk_config::{ConfigFault, Section};
 use ptk_window::{Window, plan_fault};
@@ -40,11 +41,11 @@ fn walk_table(alloc: Global, table: &Table) -> Result<(), Refusal>
     ensures { PlacedAside result (table_walk (table_view table.now)) }
 {
     let top = TablePlace::Top;
-    let frame = number_within(table, top, Key::Frame, 16, 1_000_000)?;
-    let values = array_within(table, top, Key::Partition, 1, 8)?;
+    let frame = number_within(table, top, Key::Frame, FRAME_FROM, FRAME_TO)?;
+    let values = array_within(table, top, Key::Partition, 1, PARTITIONS_TO)?;
     walk_sections(values)?;
     let sections = read_sections(alloc, values)?;
-    let values = array_within(table, top, Key::Window, 0, 64)?;
+    let values = array_within(table, top, Key::Window, 0, WINDOWS_TO)?;
     walk_windows(None, values)?;
     let windows = read_windows(alloc, values, &sections)?;
     walk_plans(table)?;

@@ -10,7 +10,9 @@ ghost use Rattle.ptk_config_places.specs.Walks.{bytes_walk, input_walk, inputs_w
 use crate::place::{Key, Place, Refusal, TablePlace};
 use ptk_config::ConfigFault;
 use ptk_config::parts::{
-    KEYS, are_known, array, counted, integer, items, members, number, read_image, read_name,
+    CONDITIONS_TO, INPUT_TO, INTERVAL_TO, KEYS, KEYS_TO, LAST_FROM, LENGTH_TO, MEMORY_FROM,
+    MEMORY_TO, MUTEXES_TO, OUTPUT_TO, PLANS_TO, RING_TO, START_TO, THREADS_TO, TRACE_TO,
+    WINDOWS_TO, are_known, array, counted, integer, items, members, number, read_image, read_name,
     required, sixteens, stack, text, value_at,
 };
 use ptk_words::LAST_TICK;
@@ -95,10 +97,10 @@ fn walk_bytes(table: TablePlace, values: &[Value]) -> Result<(), Refusal>
     Ok(())
 }
 
-/// The inputs so far in sum: the tick of the last, 0 where there is none, and how many bytes they have.
+/// The inputs so far in sum: the tick from which on the next one may come, and how many bytes they have.
 #[derive(Clone, Copy)]
 pub(crate) struct InputsBefore {
-    last: u64,
+    from: u64,
     count: usize,
 }
 
@@ -116,12 +118,12 @@ fn walk_input(
 {
     let here = TablePlace::Input(section, number);
     let table = at(Place::Table(here), members(value))?;
-    let last = number_within(table, here, Key::At, before.last, LAST_TICK)?;
-    let values = array_within(table, here, Key::Bytes, 0, 65536 - before.count)?;
+    let from = number_within(table, here, Key::At, before.from, LAST_TICK)?;
+    let values = array_within(table, here, Key::Bytes, 0, INPUT_TO - before.count)?;
     walk_bytes(here, values)?;
     known_at(table, here, &["at", "bytes"])?;
     Ok(InputsBefore {
-        last,
+        from,
         count: before.count + values.len(),
     })
 }
@@ -130,9 +132,9 @@ fn walk_input(
 #[tactic(auto, using(crate::proofs::Numbered::numbered))]
 fn walk_each_input(section: usize, values: &[Value]) -> Result<(), Refusal>
     ensures { result ≡ refusal_alone
-        (each_numbered (input_walk section) 1 (record { last = 0; count = 0 }) (items_view values.now)) }
+        (each_numbered (input_walk section) 1 (record { from = 0; count = 0 }) (items_view values.now)) }
 {
-    let mut before = InputsBefore { last: 0, count: 0 };
+    let mut before = InputsBefore { from: 0, count: 0 };
     for (index, value) in values.iter().enumerate() {
         before = walk_input(section, index + 1, before, value)?;
     }
@@ -158,18 +160,18 @@ fn walk_limits(section: usize, table: &Table) -> Result<(), Refusal>
     ensures { result ≡ limits_walk section (table_view table.now) }
 {
     let here = TablePlace::Section(section);
-    let size = sixteens(table, "memory", 4096, 1_048_576);
+    let size = sixteens(table, "memory", MEMORY_FROM, MEMORY_TO);
     let memory = at(Place::Key(here, Key::Memory), size)?;
-    let threads = number_within(table, here, Key::Threads, 1, 32)?;
+    let threads = number_within(table, here, Key::Threads, 1, THREADS_TO)?;
     let size = stack(table, memory, threads);
     at(Place::Key(here, Key::Stack), size)?;
-    number_within(table, here, Key::Mutexes, 0, 64)?;
-    number_within(table, here, Key::Conditions, 0, 32)?;
-    number_within(table, here, Key::Keys, 0, 32)?;
-    number_within(table, here, Key::Interval, 1, 1_000_000)?;
-    number_within(table, here, Key::Ring, 1, 256)?;
-    number_within(table, here, Key::Output, 0, 65536)?;
-    number_within(table, here, Key::Trace, 0, 1024)?;
+    number_within(table, here, Key::Mutexes, 0, MUTEXES_TO)?;
+    number_within(table, here, Key::Conditions, 0, CONDITIONS_TO)?;
+    number_within(table, here, Key::Keys, 0, KEYS_TO)?;
+    number_within(table, here, Key::Interval, 1, INTERVAL_TO)?;
+    number_within(table, here, Key::Ring, 1, RING_TO)?;
+    number_within(table, here, Key::Output, 0, OUTPUT_TO)?;
+    number_within(table, here, Key::Trace, 0, TRACE_TO)?;
     Ok(())
 }
 
@@ -204,8 +206,8 @@ fn walk_window(plan: Option<usize>, number: usize, value: &Value) -> Result<(), 
 {
     let here = TablePlace::Window(plan, number);
     let table = at(Place::Table(here), members(value))?;
-    number_within(table, here, Key::Start, 0, 999_999)?;
-    number_within(table, here, Key::Length, 1, 1_000_000)?;
+    number_within(table, here, Key::Start, 0, START_TO)?;
+    number_within(table, here, Key::Length, 1, LENGTH_TO)?;
     let name = at(
         Place::Key(here, Key::Partition),
         required(table, "partition"),
@@ -233,8 +235,8 @@ fn walk_plan(number: usize, last: u64, value: &Value) -> Result<u64, Refusal>
 {
     let here = TablePlace::Plan(number);
     let table = at(Place::Table(here), members(value))?;
-    let from = number_within(table, here, Key::From, last + 1, 68_719_476_736)?;
-    let values = array_within(table, here, Key::Window, 0, 64)?;
+    let from = number_within(table, here, Key::From, last + 1, LAST_FROM)?;
+    let values = array_within(table, here, Key::Window, 0, WINDOWS_TO)?;
     walk_windows(Some(number), values)?;
     known_at(table, here, &["from", "window"])?;
     Ok(from)
@@ -261,7 +263,7 @@ pub(crate) fn walk_plans(table: &Table) -> Result<(), Refusal>
         Some(value) => {
             let here = Place::Key(TablePlace::Top, Key::Plan);
             let values = at(here, items(value))?;
-            let values = at(here, counted(values, 0, 15))?;
+            let values = at(here, counted(values, 0, PLANS_TO))?;
             walk_each_plan(values)
         }
         None => Ok(()),

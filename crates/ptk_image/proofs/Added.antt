@@ -9,6 +9,7 @@ use Rattle.std.proofs.lemmas.List.Folds.{find-set, find_past, find-append, find_
 use Rattle.std.proofs.lemmas.Bool.{ltb-false}
 use Rattle.std.proofs.lemmas.Option.{slice_get_past, slice_get_read}
 use Rattle.std.proofs.lemmas.Slice.Eq.{bytes_eq-Decides}
+use Rattle.ptk_words.proofs.Options.{not_chosen}
 use Rattle.ptk_image.specs.NamedFiles.{NamedFile, content_of}
 
 -- the first that passes does
@@ -28,10 +29,6 @@ passes p (x ∷ xs) (suc i) d e h = by (p x) e (λ k. passes p xs i d k (omega a
 place_is : (b : Bool) (n i : ℕ) → cond b (Some n) None ≡ Some i → i ≡ n
 place_is true n i e = cc
 place_is false n i e = absurd cc
-
-no_place : (b : Bool) (n : ℕ) → cond b (Some n) None ≡ None → b ≡ false
-no_place true n e = absurd cc
-no_place false n e = refl
 
 -- the file of the name is replaced
 pub replaced : (files : List NamedFile) (i : ℕ) (file : NamedFile) (name content other : List ℕ) → file ≡ record { name = name; content = content } → position (λ f. bytes_eq f.name name) files ≡ Some i → i < length files
@@ -65,7 +62,7 @@ past : {X : Type 0} (xs : List X) (n : ℕ) → ltb n (length xs) ≡ false → 
 past xs n e = slice_get_past xs n (ltb-false n (length xs) e)
 
 not_found : {X : Type 0} (p : X → Bool) (xs : List X) → position p xs ≡ None → find p xs ≡ None
-not_found p xs e = find_at p xs ∙ past xs (position_or_len p xs) (no_place _ _ e)
+not_found p xs e = find_at p xs ∙ past xs (position_or_len p xs) (not_chosen _ _ e)
 
 -- the file at the place of a name is that name's
 pub at_place : (files : List NamedFile) (i : ℕ) (name : List ℕ) → position (λ f. bytes_eq f.name name) files ≡ Some i → content_of files name ≡ option_map (λ file. file.content) (slice_get files i)

@@ -69,9 +69,7 @@ impl Files {
     pub fn get(&self, name: &str) -> Option<&[u8]>
         ensures { option_map (λ content. content.now) result ≡ content_of self.now name.now }
     {
-        match self.place_of(name) {
-            Some(place) => Some(self.items[place].content()),
-            None => None,
-        }
+        let place = self.place_of(name)?;
+        Some(self.items[place].content())
     }
 }

@@ -5,6 +5,7 @@
 //! - `read_image` returns the image that the bytes spell, or the first failed check.
 //! - `write_image` writes the one spelling.
 //! - `reads_back` and `writes_back`.
+//! - `image_fault_words` returns the words of a fault.
 //! - `Files::add` gives a name its bytes and leaves every other name's. A refused one changes nothing.
 //!
 //! Below is `ptk_words`, whose definitions say which bytes spell an image; above are the assembler and the system.
@@ -15,6 +16,7 @@ mod files;
 mod image;
 mod laws;
 mod reading;
+mod words;
 mod writing;
 
 pub use files::Files;
@@ -22,6 +24,7 @@ pub use image::Image;
 pub use laws::{reads_back, writes_back};
 pub use ptk_words::ImageFault;
 pub use reading::read_image;
+pub use words::image_fault_words;
 pub use writing::write_image;
 
 /// The bytes with which an image begins.
