@@ -9,7 +9,7 @@ use Rattle.ptk_words_model.specs.Run.{decided}
 use Rattle.ptk_system.specs.Missing.{image_in}
 use Rattle.ptk_system.specs.World.{World, at_tick, section_at, state_of}
 
--- a partition of one system and one of another are told the same: own ticks and window ends, numbers, image and input
+-- a partition of one system and one of another are given the same: own ticks and window ends, numbers, image and input
 pub record SameView (a : World) (p : ℕ) (b : World) (q : ℕ) : Type 0 where
   pub ends : (t : ℕ) → (own_ticks a.config.plan p).end_at t ≡ (own_ticks b.config.plan q).end_at t
   pub limits : (section_at a.config p).limits ≡ (section_at b.config q).limits

@@ -7,5 +7,6 @@ pub mod Shown
 pub mod Loaded
 pub mod Laws
 pub mod BootNumbers
+pub use Rattle.ptk_image.specs.FaultWords
 pub use Rattle.ptk_system_machine.specs.ByThread
 pub use Rattle.ptk_trace.specs.KeptSteps

@@ -1,4 +1,4 @@
--- What is told of a partition's state.
+-- What the getters show of a partition's state.
 use Rattle.std.specs.Prelude.{ℕ, Bool, true, false, Option, Some, None, option_map, option_and_then, nat_lt, if◌then◌else◌}
 use Rattle.ptk_words.specs.Processor.{Processor, register}
 use Rattle.ptk_words.specs.declared.faults.Status.{Status}
@@ -29,7 +29,7 @@ abbrev pub activity_of : Bool → PartStatus
 activity_of true = told.Running
 activity_of false = told.Idle
 
--- the status that is told, by the state's own and by whether a thread is running or ready
+-- the status that is shown, by the state's own and by whether a thread is running or ready
 abbrev pub told_status : Status → Bool → PartStatus
 told_status Active busy = activity_of busy
 told_status (Exited code) busy = told.Exited code

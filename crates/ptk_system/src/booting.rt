@@ -22,10 +22,8 @@ pub(crate) fn first_missing(config: &Config, files: &Files) -> Option<PartId>
     ensures { result ≡ first_missing files.now config.now.sections }
 {
     let sections = config.sections();
-    match place_of_missing(sections, files) {
-        Some(place) => Some(PartId::new(place as u8)),
-        None => None,
-    }
+    let place = place_of_missing(sections, files)?;
+    Some(PartId::new(place as u8))
 }
 
 /// The place of the first section whose file is missing.
@@ -52,10 +50,8 @@ fn is_missing(section: &Section, files: &Files) -> bool
 fn image_bytes<'a>(section: &Section, files: &'a Files) -> Option<&'a [u8]>
     ensures { option_map (λ bytes. bytes.now) result ≡ image_in files.now section.now.image }
 {
-    match section.image() {
-        Some(name) => files.get(name),
-        None => None,
-    }
+    let name = section.image()?;
+    files.get(name)
 }
 
 /// The machine before the first decision of any partition. Memory is its only fault.

@@ -7,6 +7,7 @@
 //!   promises of separation, each with its clause in docs/GUARANTEES.md.
 //! - Over the ticks that `compute_to` and `call_to` go over each thread does what it did (`steady`: `GoesOnAsIs`), and
 //!   a call that `call_to` goes over is the last that happens to its partition (`last`: `StaysBehindCall`).
+//! - `cause_word` is the report's word for a cause.
 //!
 //! A system's value has the state that each partition is in, and every getter, the tables and the report are functions
 //! of it. The headline is the invariant of `System`, which `states_are_alone` states: after any ticks each partition's
@@ -29,7 +30,7 @@ pub use fault::BootFault;
 pub use laws::{
     decisions_are_own, idle_world, one_processor, steps_are_apart, stop_on_the_way, two_worlds,
 };
-pub use ptk_image::Files;
+pub use ptk_image::{Files, image_fault_words};
 pub use ptk_mutex_priorities::MutexState;
-pub use status::PartStatus;
+pub use status::{PartStatus, cause_word};
 pub use system::System;

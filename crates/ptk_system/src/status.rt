@@ -1,7 +1,7 @@
 //! What a partition does, as the report says it.
 
 ghost use Rattle.std.specs.Prelude.{◌≡◌, Some};
-ghost use Rattle.ptk_words_model.specs.Text.{cause_text, fault_text};
+ghost use Rattle.ptk_words_model.specs.Text.{cause_text};
 ghost use Rattle.ptk_system.specs.Told.{is_halted, told_status};
 ghost use Rattle.ptk_system.specs.Shown.{shown_status};
 
@@ -49,36 +49,17 @@ impl PartStatus {
     }
 }
 
-/// The kind of a fault, as the report spells it.
-#[derive(Clone, Copy)]
-struct Kind(FaultKind);
-
-impl fmt::Display for Kind {
-    ghost output = { λ k. Some (fault_text k.0) };
-
-    fn fmt<W: fmt::Write>(&self, f: &mut fmt::Formatter<W>) -> fmt::Result {
-        match self.0 {
-            FaultKind::Illegal => f.write_str("illegal"),
-            FaultKind::Fetch => f.write_str("fetch"),
-            FaultKind::Load => f.write_str("load"),
-            FaultKind::Store => f.write_str("store"),
-            FaultKind::Misaligned => f.write_str("misaligned"),
-        }
-    }
-}
-
-/// What stopped a partition, as the report spells it.
-#[derive(Clone, Copy)]
-struct Reason(Cause);
-
-impl fmt::Display for Reason {
-    ghost output = { λ c. Some (cause_text c.0) };
-
-    fn fmt<W: fmt::Write>(&self, f: &mut fmt::Formatter<W>) -> fmt::Result {
-        match self.0 {
-            Cause::Break => f.write_str("break"),
-            Cause::Fault(kind) => Kind(kind).fmt(f),
-        }
+/// The word of a cause, as the report spells it.
+pub fn cause_word(cause: Cause) -> &'static str
+    ensures { result.now ≡ cause_text cause }
+{
+    match cause {
+        Cause::Break => "break",
+        Cause::Fault(FaultKind::Illegal) => "illegal",
+        Cause::Fault(FaultKind::Fetch) => "fetch",
+        Cause::Fault(FaultKind::Load) => "load",
+        Cause::Fault(FaultKind::Store) => "store",
+        Cause::Fault(FaultKind::Misaligned) => "misaligned",
     }
 }
 
@@ -90,7 +71,10 @@ impl fmt::Display for PartStatus {
             PartStatus::Idle => f.write_str("idle"),
             PartStatus::Running => f.write_str("running"),
             PartStatus::Exited(code) => write!(f, "exit {}", Decimal(u64::from(code))),
-            PartStatus::Stopped(cause, pc) => write!(f, "fault {} pc {}", Reason(cause), Word(pc)),
+            PartStatus::Stopped(cause, pc) => {
+                let (word, pc) = (cause_word(cause), Word(pc));
+                write!(f, "fault {word} pc {pc}")
+            }
             PartStatus::Refused(fault) => {
                 write!(f, "refused image {}", Decimal(u64::from(fault.number())))
             }

@@ -88,8 +88,8 @@ impl<'a> System<'a> {
     }
 
     /// Goes on over plain steps and quiet calls of the partition that decides next, to a tick of at most 2^40 that is
-    /// not after `n`, and before any other decision. It stands still only where `n` was already reached, or where a
-    /// decision at the tick reached is no plain step of a quiet partition. At each tick on the way each thread does
+    /// not after `n`, and before any other decision. It stays at its tick only where `n` was already reached, or where
+    /// a decision at that tick is no plain step of a quiet partition. At each tick on the way each thread does
     /// what it did at the first one, with the same priorities and the same owner of the mutex that it waits for; no
     /// tick is lost, no byte of input is dropped, and each partition's status is the same.
     pub fn compute_to(&mut self, n: Tick)

@@ -12,7 +12,7 @@ use crate::status::PartStatus;
 use crate::system::System;
 use ptk_system_machine::{Machine, Tables};
 use ptk_trace::Trace;
-use ptk_words::{Cpu, PartId, ThreadNo};
+use ptk_words::{Cpu, Limits, PartId, ThreadNo};
 
 impl<'a> System<'a> {
     /// How many partitions there are, 1 to 8. It opens the invariant: the configuration is one without a fault.
@@ -38,6 +38,14 @@ impl<'a> System<'a> {
         let _ = &self.machine;
     }
 
+    /// The numbers of a partition's section.
+    pub fn limits(&self, p: PartId) -> Limits
+        requires { p < length self.now.config.sections }
+        ensures { result ≡ (section_at self.now.config p).limits }
+    {
+        self.config().sections()[p.index()].limits()
+    }
+
     /// The tables and accounts of all partitions, which are their states.
     pub(crate) fn kept(&self) -> &Machine
         ensures count { length result.now.accounts ≡ length self.now.config.sections }
@@ -48,7 +56,7 @@ impl<'a> System<'a> {
         &self.machine
     }
 
-    /// The tables of all partitions: of each section's, and of no other.
+    /// The tables: each section's partition has its part in them, and there is no other part.
     pub fn tables(&self) -> &Tables
         ensures count { length result.now.limits ≡ length self.now.config.sections }
         ensures parts { AreParts (length self.now.config.sections) result.now }
@@ -74,10 +82,8 @@ impl<'a> System<'a> {
         requires { p < length self.now.config.sections }
         ensures { result ≡ pc_in thread (state_of self.now p).part }
     {
-        match self.live_cpu(p, thread) {
-            Some(cpu) => Some(cpu.pc()),
-            None => None,
-        }
+        let cpu = self.live_cpu(p, thread)?;
+        Some(cpu.pc())
     }
 
     /// The registers of a thread that has not ended.

@@ -1,24 +1,17 @@
 -- A partition whose next decision is prepared: arrivals, expiries and the choice are made, the turn is still to come.
-use Rattle.std.proofs.Common.{◌≡◌, ℕ, ◌<◌, ◌≤◌, Bool, true, false, nat_lt, List, Option, Some, None, length, refl, rules, sym, ap, subst, ◌∙◌}
-use Rattle.std.specs.Prelude.{IsSome, if◌then◌else◌}
-use Rattle.std.specs.Option.{IsSomeAnd}
+use Rattle.std.proofs.Common.{◌≡◌, ℕ, ◌<◌, ◌≤◌, List, Some, length, sym, ap, subst, ◌∙◌}
 use Rattle.std.proofs.Math.ListN.{set}
 use Rattle.std.proofs.lemmas.List.{set-get_or}
 use Rattle.ptk_words.specs.declared.sections.Limits.{Limits}
 use Rattle.ptk_words_windows.specs.Windows.{OwnTicks}
 use Rattle.ptk_words_model.specs.declared.Spent.{Spent}
-use Rattle.ptk_words_model.specs.State.{Part, State, with_locks}
-use Rattle.ptk_words_model.specs.Schedule.{at_head, first_ready, after_choice_between, after_dispatch}
-use Rattle.ptk_words_model.specs.Priority.{effective_priority}
-use Rattle.ptk_words_model.specs.Withdrawal.{after_expiries}
-use Rattle.ptk_words_model.specs.Decision.{after_arrivals, after_turn, after_decision, ready_at, runner_of, spent_by_decision, spent_in_turn}
+use Rattle.ptk_words_model.specs.State.{Part, State}
+use Rattle.ptk_words_model.specs.Decision.{after_turn, after_decision, ready_at, runner_of, spent_by_decision, spent_in_turn}
 use Rattle.ptk_words.specs.Faults.{is_active}
-use Rattle.ptk_words_invariant.proofs.Decisions.{arrivals_status}
-use Rattle.ptk_words_invariant.proofs.Timeouts.{expiries_status}
 use Rattle.ptk_words_batches.specs.Quiet.{after_ticks}
 use Rattle.ptk_words_batches.specs.Prepared.{prepared}
 use Rattle.ptk_words_batches.proofs.PlainDecisions.{quiet_ready}
-use Rattle.ptk_words_batches.proofs.PreparedTicks.{prepared_on}
+use Rattle.ptk_words_batches.proofs.PreparedTicks.{prepared_on, ready_status}
 use Rattle.ptk_kernel.specs.Kept.{Kept, AreParts, limits_at, part_at, put_part}
 use Rattle.ptk_kernel.specs.Rows.{IsStillTo}
 use Rattle.ptk_kernel.proofs.Parted.{part_at-put, parts_put, put_part-put}
@@ -29,21 +22,6 @@ use Rattle.ptk_system_machine.proofs.States.{put_part-same, state_at-put}
 use Rattle.ptk_system_machine.proofs.Ticks.{put_state-put}
 
 -- ---- the first half
-
-choice_status : (r t : Option ℕ) (s : Part) → (after_choice_between r t s).status ≡ s.status
-choice_status r None s = refl
-choice_status None (Some t) s = refl
-choice_status (Some r) (Some t) s = by (nat_lt (effective_priority s.locks r) (effective_priority s.locks t))
-  where
-    by : (b : Bool) → (if b then after_dispatch t (with_locks (at_head r) s) else s).status ≡ s.status
-    by true = refl
-    by false = refl
-
--- it halts no partition
-ready_status : (limits : Limits) (tick : ℕ) (s : Part) → (ready_at limits tick s).status ≡ s.status
-ready_status limits tick s =
-    let come : Part = after_expiries tick (after_arrivals limits tick s) in
-    choice_status come.running (first_ready come.locks) come ∙ (expiries_status tick (after_arrivals limits tick s) ∙ arrivals_status limits tick s)
 
 -- nothing is counted of it
 pub prepared_behind : (limits : Limits) (tick : ℕ) (s : State) → IsBehind tick s → IsBehind tick (prepared limits tick s)
@@ -84,11 +62,6 @@ pub turn_gone : (ticks : OwnTicks) (p tick n : ℕ) (old mid new : Whole) → p 
 turn_gone ticks p tick n old mid new lt moved same gone =
     before_put p tick (after_ticks ticks (limits_at p old.kept) tick n (state_at p old)) old mid new lt moved same
     (gone ∙ ap (λ (l : Limits). put_state p (after_ticks ticks l tick n (state_at p old)) mid) (ap (λ (k : Kept). limits_at p k) moved))
-
--- what has such a value has one
-pub some_of : {A : Type 0} (o : Option A) (P : A → Type 0) → IsSomeAnd o P → IsSome o
-some_of None P h = absurd h
-some_of (Some a) P h = search rules
 
 -- the invariant after one part changed
 pub part_whole : (p : ℕ) (s : Part) (kept new : Kept) (accounts : List KeptAccount) → IsWhole kept accounts → new ≡ put_part p s kept → IsWhole new accounts

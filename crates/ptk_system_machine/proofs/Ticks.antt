@@ -14,7 +14,7 @@ use Rattle.ptk_words_model.specs.Run.{after_tick, after_tick_until, decided, is_
 use Rattle.ptk_words_batches.specs.Quiet.{after_ticks}
 use Rattle.ptk_words_batches.specs.Idle.{IsIdle, waiting_from}
 use Rattle.ptk_words_batches.proofs.IdleTicks.{idle_ticks}
-use Rattle.ptk_words_batches.proofs.TicksInARow.{join, window_own}
+use Rattle.ptk_words_batches.proofs.TicksInARow.{join, window_own, idle_tick}
 use Rattle.ptk_kernel.specs.Kept.{Kept, limits_at, part_at, put_part}
 use Rattle.ptk_kernel.proofs.Parted.{put_part-put}
 use Rattle.ptk_system_machine.specs.Accounts.{KeptAccount, IsBehind, duration_of}
@@ -24,10 +24,6 @@ use Rattle.ptk_system_machine.proofs.States.{accounted_next, state_at-put, put_s
 use Rattle.ptk_system_machine.proofs.Behind.{behind_on}
 
 -- ---- ticks at which nothing is due
-
-idle_tick : (ticks : OwnTicks) (limits : Limits) (tick : ℕ) (o : Option ℕ) (s : State) → is_at tick s.account.next ≡ false → after_tick_until o ticks limits tick s ≡ s
-idle_tick ticks limits tick None s e = refl
-idle_tick ticks limits tick (Some end) s e = rw e refl
 
 -- over ticks at which no decision is due the state stays
 pub still_on : (ticks : OwnTicks) (limits : Limits) (tick n : ℕ) (s : State) → ((k : ℕ) → tick ≤ k → k < tick + n → is_at k s.account.next ≡ false) → after_ticks ticks limits tick n s ≡ s

@@ -16,8 +16,8 @@ use ptk_words_model::Spent;
 use std::alloc::{AllocError, Global};
 use std::marker::Model;
 
-/// The tick of a partition's next decision, if there is one, its steps, its lost ticks and its last steps. Beside them
-/// stands where it was last found among its windows, of which nothing is said.
+/// The tick of a partition's next decision, if there is one, its steps, its lost ticks and its last steps; and where it
+/// was last found among its windows, of which nothing is said.
 #[derive(Drop)]
 pub struct Account {
     next: Option<Tick>,

@@ -7,11 +7,12 @@
 //! - A run from a tick to another, one partition after the other and each turn after turn, by rows of plain steps and
 //!   quiet calls over any number of windows, turns of single threads and the ticks over which a partition has nothing
 //!   to do, does to each partition what these ticks do to it alone (`Machine::run`).
-//! - At each tick of a row of plain steps and quiet calls the threads of each partition are and wait as at its first
-//!   (`Machine::run_row` and `Machine::run_call`, `steady`), and behind a call to which `Machine::run_call` goes
-//!   nothing happens (`last`).
-//! - Each turn is prepared once: what is quiet is prepared, and from what is prepared and quiet ticks lead where they
-//!   lead from the state before (`quiet_is_prepared`, `prepared_goes_on` of `ptk_words_batches`).
+//! - At each tick of a row of plain steps and quiet calls each thread does, and waits for, what it did at the row's
+//!   first tick (`Machine::run_row` and `Machine::run_call`, `steady`), and behind a call to which `Machine::run_call`
+//!   goes nothing happens to its partition (`last`).
+//! - Each turn is prepared once: preparing a quiet partition changes nothing, and ticks that begin with a decision lead
+//!   from the prepared state to where they lead from the state before (`quiet_is_prepared`, `prepared_goes_on` of
+//!   `ptk_words_batches`).
 //!
 //! Below are the kernel and the window plan; above is the system. Costly to prove are that a decision and the ticks up
 //! to the next one are as many ticks as the definition says (`proofs/Ticks`), that steps in a row are counted as the

@@ -91,9 +91,10 @@ impl Machine {
     }
 
     /// Goes on from a tick by plain steps and quiet calls of the partition that decides next, up to `to` at most,
-    /// and before any other decision. Returns the tick that it reached, which is the first one only where a decision at
-    /// that tick is no plain step of a quiet partition. To each partition it does what this many ticks would do to that
-    /// partition alone. At each tick on the way each partition's threads are and wait as at the first one.
+    /// and before any other decision. Returns the tick that it reached, which is the first one only where that is `to`,
+    /// or a decision at that tick is no plain step of a quiet partition. To each partition it does what this many ticks
+    /// would do to that partition alone. At each tick on the way each thread does, and waits for, what it did at the
+    /// first one.
     pub fn run_row(&mut self, plan: &WindowPlan, tick: Tick, to: Tick) -> Tick
         requires windows { AreWindowsOf (length self.old.accounts) plan.now }
         requires order { tick ≤ to }

@@ -17,10 +17,10 @@ use ptk_words::{PartId, Tick};
 
 impl Machine {
     /// Goes on from a tick as `run_row` does, but by plain steps of one window at most and the quiet call behind them,
-    /// which is the last step. Returns the tick that it reached, which is the first one only where a decision at that
-    /// tick is no plain step of a quiet partition. To each partition it does what this many ticks would do to that
-    /// partition alone. At each tick on the way each partition's threads are and wait as at the first one, and behind a
-    /// call nothing happens.
+    /// which is the last step. Returns the tick that it reached, which is the first one only where that is `to`, or a
+    /// decision at that tick is no plain step of a quiet partition. To each partition it does what this many ticks
+    /// would do to that partition alone. At each tick on the way each thread does, and waits for, what it did at the
+    /// first one, and behind a call nothing happens to its partition.
     pub fn run_call(&mut self, plan: &WindowPlan, tick: Tick, to: Tick) -> Tick
         requires windows { AreWindowsOf (length self.old.accounts) plan.now }
         requires order { tick ≤ to }
