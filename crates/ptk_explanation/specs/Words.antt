@@ -7,8 +7,6 @@ use Rattle.ptk_words.specs.declared.TheConstants.{LAST_TICK}
 use Rattle.ptk_words.specs.declared.faults.Cause.{Cause}
 use Rattle.ptk_words.specs.declared.faults.Cause.TheVariants as cause
 use Rattle.ptk_words.specs.declared.faults.FaultKind.TheVariants as kind
-use Rattle.ptk_words.specs.declared.faults.ImageFault.{ImageFault}
-use Rattle.ptk_words.specs.declared.faults.ImageFault.TheVariants as image
 use Rattle.ptk_words.specs.declared.mutexes.MutexKind.{MutexKind}
 use Rattle.ptk_words.specs.declared.mutexes.MutexKind.TheVariants.{Normal, ErrorCheck, Recursive}
 use Rattle.ptk_words.specs.declared.mutexes.Owner.{Owner}
@@ -22,6 +20,7 @@ use Rattle.ptk_words.specs.declared.threads.Wait.TheVariants.{InputWait, SleepWa
 use Rattle.ptk_words_model.specs.Text.{fault_text}
 use Rattle.ptk_explanation_facts.specs.Activity.{Activity}
 use Rattle.ptk_explanation_facts.specs.Activity.TheVariants as activity
+use Rattle.ptk_explanation_facts.specs.FaultWords.{image_fault_words}
 use Rattle.ptk_explanation_facts.specs.PartStatus.{PartStatus}
 use Rattle.ptk_explanation_facts.specs.PartStatus.TheVariants as status
 
@@ -94,16 +93,6 @@ activity_words activity.Halted owner = codes "halted"
 
 -- ---- how a partition stands
 
--- why bytes are no image, or one that does not fit (own)
-abbrev pub image_words : ImageFault → List Byte
-image_words image.Short = codes "the image is shorter than its header"
-image_words image.Magic = codes "the image does not begin with PTKI"
-image_words image.Version = codes "the image has an unknown version"
-image_words image.Length = codes "the image has other lengths than its header says"
-image_words image.Entry = codes "the entry of the image is misplaced"
-image_words image.Memory = codes "out of memory"
-image_words image.Unfit = codes "the image does not fit into its partition"
-
 -- what stopped a partition (own)
 abbrev pub stop_words : Cause → List Byte
 stop_words cause.Break = codes "stopped by an ebreak"
@@ -116,4 +105,4 @@ headline_words (Some status.Idle) = codes "idle, no thread is running or ready"
 headline_words (Some status.Running) = codes "running"
 headline_words (Some (status.Exited code)) = codes "exited with " ++ decimal code
 headline_words (Some (status.Stopped cause pc)) = stop_words cause
-headline_words (Some (status.Refused fault)) = codes "image refused, fault " ++ (decimal (image_fault_number fault) ++ (codes ": " ++ image_words fault))
+headline_words (Some (status.Refused fault)) = codes "image refused, fault " ++ (decimal (image_fault_number fault) ++ (codes ": " ++ image_fault_words fault))

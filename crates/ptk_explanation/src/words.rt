@@ -2,12 +2,10 @@
 
 ghost use Rattle.std.specs.Prelude.{◌≡◌, Some, option_and_then};
 ghost use Rattle.ptk_explanation_facts.specs.Facts.{owner_of};
-ghost use Rattle.ptk_explanation.specs.Words.{activity_words, ceiling_in, headline_words, image_words, name_of_policy, name_of_protocol, name_of_type, owner_words, stop_words, until_words, wait_words, words_of_refusal};
+ghost use Rattle.ptk_explanation.specs.Words.{activity_words, ceiling_in, headline_words, name_of_policy, name_of_protocol, name_of_type, owner_words, stop_words, until_words, wait_words, words_of_refusal};
 
-use ptk_explanation_facts::{Activity, Awaited, PartStatus, cause_word};
-use ptk_words::{
-    Cause, FaultKind, ImageFault, LAST_TICK, MutexKind, Owner, Policy, Protocol, Tick, Wait,
-};
+use ptk_explanation_facts::{Activity, Awaited, PartStatus, cause_word, image_fault_words};
+use ptk_words::{Cause, FaultKind, LAST_TICK, MutexKind, Owner, Policy, Protocol, Tick, Wait};
 use std::fmt;
 
 /// Who owns a mutex, None of a number that is no mutex.
@@ -174,21 +172,6 @@ pub(crate) fn refusal_words(cause: Cause) -> &'static str
     }
 }
 
-/// Why bytes are no image, or one that does not fit.
-fn image_words(fault: ImageFault) -> &'static str
-    ensures { result.now ≡ image_words fault }
-{
-    match fault {
-        ImageFault::Short => "the image is shorter than its header",
-        ImageFault::Magic => "the image does not begin with PTKI",
-        ImageFault::Version => "the image has an unknown version",
-        ImageFault::Length => "the image has other lengths than its header says",
-        ImageFault::Entry => "the entry of the image is misplaced",
-        ImageFault::Memory => "out of memory",
-        ImageFault::Unfit => "the image does not fit into its partition",
-    }
-}
-
 /// What stopped a partition.
 #[derive(Clone, Copy)]
 struct StoppedBy(Cause);
@@ -222,7 +205,7 @@ impl fmt::Display for Headline {
             Some(PartStatus::Exited(code)) => write!(f, "exited with {code}"),
             Some(PartStatus::Stopped(cause, _)) => StoppedBy(cause).fmt(f),
             Some(PartStatus::Refused(fault)) => {
-                let (number, why) = (fault.number(), image_words(fault));
+                let (number, why) = (fault.number(), image_fault_words(fault));
                 write!(f, "image refused, fault {number}: {why}")
             }
         }

@@ -7,6 +7,7 @@ pub mod Stops
 pub mod Targets
 pub use Rattle.ptk_main_runs.specs.Activities
 pub use Rattle.ptk_main_runs.specs.Activity
+pub use Rattle.ptk_main_runs.specs.FaultWords
 pub use Rattle.ptk_main_runs.specs.Members
 pub use Rattle.ptk_main_runs.specs.Missing
 pub use Rattle.ptk_main_runs.specs.PartStatus

@@ -88,24 +88,20 @@ impl ThreadFacts {
         requires { p < length system.now.config.sections }
         ensures { result ≡ facts_of (state_of system.now p).part number history.now }
     {
-        let Some(thread) = thread_of(system, p, number) else {
-            return None;
-        };
+        let thread = thread_of(system, p, number)?;
         let is_cancel_pending = is_cancel_pending(system, p, number, thread.phase);
         let activity = system.activity(p, number);
         let awaited = awaited_in(system, p, &activity);
-        match system.effective_priority(p, number) {
-            Some(effective) => Some(ThreadFacts {
-                number,
-                thread,
-                activity,
-                effective,
-                awaited,
-                is_cancel_pending,
-                history: *history,
-            }),
-            None => None,
-        }
+        let effective = system.effective_priority(p, number)?;
+        Some(ThreadFacts {
+            number,
+            thread,
+            activity,
+            effective,
+            awaited,
+            is_cancel_pending,
+            history: *history,
+        })
     }
 
     /// Its pc, None where it has ended.

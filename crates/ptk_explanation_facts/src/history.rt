@@ -167,10 +167,7 @@ fn stepper(system: &System<'_>, p: PartId, steps: u64) -> Option<ThreadNo>
     if system.steps(p) <= steps {
         return None;
     }
-    match system.last_step(p) {
-        Some(entry) => Some(entry.thread),
-        None => None,
-    }
+    Some(system.last_step(p)?.thread)
 }
 
 /// What is seen of a partition's threads after the decision at a tick, with which the thread `by` made a step if one

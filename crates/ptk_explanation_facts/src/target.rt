@@ -95,10 +95,7 @@ fn mutex_number(wait: &Wait) -> Option<u8>
 fn condition_number(wait: &Wait) -> Option<u8>
     ensures { result ≡ condition_of_wait (Some wait.now) }
 {
-    match wait.condition() {
-        Some(c) => Some(c.number()),
-        None => None,
-    }
+    Some(wait.condition()?.number())
 }
 
 /// The thread whose end a wait is for (pthread_join).
@@ -119,8 +116,5 @@ fn joined_number(wait: &Wait) -> Option<u8>
 fn deadline_tick(wait: &Wait) -> Option<u64>
     ensures { result ≡ deadline_of_wait (Some wait.now) }
 {
-    match wait.deadline() {
-        Some(tick) => Some(tick.ticks()),
-        None => None,
-    }
+    Some(wait.deadline()?.ticks())
 }

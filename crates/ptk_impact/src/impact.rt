@@ -25,9 +25,9 @@ pub enum Impact {
 }
 
 impl Impact {
-    /// What stands between the old partition and the new one. `Unchanged` if and only if the own ticks and the ends of
-    /// the windows, the limits, the bytes of the image and the input are the same; `UnchangedButForTrace` if and only
-    /// if they are the same but for the trace's length, which is not. Name and place among the sections, the names of
+    /// How the new partition differs from the old one. `Unchanged` if and only if the own ticks and the ends of the
+    /// windows, the limits, the bytes of the image and the input are the same; `UnchangedButForTrace` if and only if
+    /// they are the same but for the trace's length, which is not. Name and place among the sections, the names of
     /// the images' files and all other partitions play no part.
     ///
     /// After every number of ticks up to 2^40 an unchanged partition is in the same state in both systems, and one that

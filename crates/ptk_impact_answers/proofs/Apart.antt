@@ -1,16 +1,18 @@
 -- Names that no two have: of a list's items, of the renames of a text, of a configuration's sections.
-use Rattle.std.proofs.Common.{◌≡◌, ◌≢◌, ◌∙◌, ℕ, zero, suc, ◌<◌, ◌≤◌, Bool, true, false, cond, nat_lt, List, [], ◌∷◌, ◌++◌, length, get_or, position, All, AllPairs, Option, Some, None, true≢false, refl, ap, subst, arith}
+use Rattle.std.proofs.Common.{◌≡◌, ◌≢◌, ℕ, zero, suc, ◌<◌, ◌≤◌, Bool, true, false, nat_lt, List, [], ◌∷◌, ◌++◌, length, get_or, position, All, AllPairs, Option, Some, None, true≢false, refl, subst, arith}
 use Rattle.std.specs.Prelude.{Result, Ok, Err, if◌then◌else◌, is_some, option_and_then}
 use Rattle.std.specs.Borrow.{Bor}
 use Rattle.std.specs.List.{list_any, position_or_len}
 use Rattle.std.specs.Str.{bytes_eq}
-use Rattle.std.proofs.lemmas.Bool.{both_ways, false_from_ne_true, lt-ltb, ltb-false, or_parts}
+use Rattle.std.proofs.lemmas.Bool.{both_ways, false_from_ne_true, ltb-false, or_parts}
 use Rattle.std.proofs.lemmas.List.Elements.{All-cons, All-nil}
 use Rattle.std.proofs.lemmas.List.Kept.{AllPairs-cons}
 use Rattle.std.proofs.lemmas.List.Quantifiers.{all_pairs_push, position-Some}
-use Rattle.std.proofs.lemmas.List.Sums.{fails_before_first, position_or_len_is}
+use Rattle.std.proofs.lemmas.List.Sums.{fails_before_first}
 use Rattle.std.proofs.lemmas.Option.{same_Some}
 use Rattle.std.proofs.lemmas.Slice.Eq.{bytes_eq-Decides}
+use Rattle.ptk_words.proofs.Options.{not_chosen}
+use Rattle.ptk_words.proofs.Lists.{position-at}
 use Rattle.ptk_config.specs.Configuration.{any_doubled}
 use Rattle.ptk_config.specs.Sections.{Section}
 use Rattle.ptk_impact_answers.specs.declared.renames.TheConstants.{MOST_RENAMES}
@@ -27,16 +29,10 @@ AreNamedApart f xs = AllPairs (λ x y. f x ≢ f y) xs
 abbrev pub place_by : {A : Type 0} → (A → List ℕ) → List A → List ℕ → Option ℕ
 place_by f xs name = position (λ x. bytes_eq (f x) name) xs
 
-first_here : {A : Type 0} (p : A → Bool) (xs : List A) (i : ℕ) (d : A) → i < length xs → ((k : ℕ) → k < i → p (get_or xs k d) ≡ false) → p (get_or xs i d) ≡ true
-    → position p xs ≡ Some i
-first_here p xs i d within none here =
-    let at : position_or_len p xs ≡ i = position_or_len_is p xs i d (omega (arith, within)) none (λ _. here) in
-    ap (λ (k : ℕ). cond (nat_lt k (length xs)) (Some k) None) at ∙ ap (λ (b : Bool). cond b (Some i) None) (lt-ltb i (length xs) within)
-
 -- an item is found at its own place by its name
 pub own_place : {A : Type 0} (f : A → List ℕ) (xs : List A) (i : ℕ) (d : A) → AreNamedApart f xs → i < length xs → place_by f xs (f (get_or xs i d)) ≡ Some i
 own_place f xs i d apart within =
-    first_here (λ x. bytes_eq (f x) (f (get_or xs i d))) xs i d within
+    position-at (λ x. bytes_eq (f x) (f (get_or xs i d))) xs i d within
     (λ k before. false_from_ne_true (bytes_eq (f (get_or xs k d)) (f (get_or xs i d)))
     (λ same. apart k i d before within ((bytes_eq-Decides (f (get_or xs k d)) (f (get_or xs i d))).0 same)))
     ((bytes_eq-Decides (f (get_or xs i d)) (f (get_or xs i d))).1 refl)
@@ -47,17 +43,13 @@ found_named f xs name i d at =
     let found = position-Some (λ x. bytes_eq (f x) name) xs i d at in
     (found.0, (bytes_eq-Decides (f (get_or xs i d)) name).0 found.1)
 
-no_place : (b : Bool) (n : ℕ) → cond b (Some n) None ≡ None → b ≡ false
-no_place true n h = absurd cc
-no_place false n h = refl
-
 -- where nothing is found no item has the name
 none_named : {A : Type 0} (f : A → List ℕ) (xs : List A) (name : List ℕ) → place_by f xs name ≡ None → (k : ℕ) (d : A) → k < length xs
     → f (get_or xs k d) ≡ name → ⊥
 none_named f xs name nowhere k d within same =
     let past : length xs ≤ position_or_len (λ x. bytes_eq (f x) name) xs =
     ltb-false (position_or_len (λ x. bytes_eq (f x) name) xs) (length xs)
-    (no_place (nat_lt (position_or_len (λ x. bytes_eq (f x) name) xs) (length xs)) (position_or_len (λ x. bytes_eq (f x) name) xs) nowhere) in
+    (not_chosen (nat_lt (position_or_len (λ x. bytes_eq (f x) name) xs) (length xs)) (position_or_len (λ x. bytes_eq (f x) name) xs) nowhere) in
     both_ways (bytes_eq (f (get_or xs k d)) name) (fails_before_first (λ x. bytes_eq (f x) name) xs k d (omega (arith, past, within)))
     ((bytes_eq-Decides (f (get_or xs k d)) name).1 same)
 

@@ -4,6 +4,7 @@ use Rattle.std.specs.Prelude.{if◌then◌else◌, is_none, unwrap_or}
 use Rattle.std.specs.Borrow.{Bor}
 use Rattle.std.proofs.lemmas.Bool.{both_ways}
 use Rattle.ptk_words.specs.declared.sections.Limits.{Limits}
+use Rattle.ptk_words.proofs.Options.{not_both}
 use Rattle.ptk_impact_formats.specs.Impact.{IsImpact}
 use Rattle.ptk_impact_formats.specs.Views.{SeenAlike}
 use Rattle.ptk_impact_formats.specs.World.{section_at}
@@ -35,9 +36,6 @@ one_holds P place count few is held =
     let exact : min (count + 1) (2 ^ 64 - 1) ≡ count + 1 = omega arith in
     inl (count, is, held, exact)
 
-not_there : (found : Option ℕ) (place : ℕ) → found ≡ None → found ≡ Some place → ⊥
-not_there found place refuted is = let never : None ≡ Some place = sym refuted ∙ is in absurd (cc)
-
 -- ---- new partitions
 
 -- what is counted of the new partitions before a place
@@ -60,9 +58,9 @@ module _ (renames : List Renamed) (asked : Option (Bor (List ℕ))) (old new : R
   none_more : is_new_asked renames asked (section_at new.config.now place).name ≡ true → place_before renames old.config.now (section_at new.config.now place).name ≡ None
       → AreNewCounts renames asked old new (suc place) (with_added tally)
   none_more is nowhere = (
-    inr (λ was. not_there _ was.0 nowhere was.2, held.0),
-    inr (λ was. not_there _ was.0 nowhere was.2, held.1),
-    inr (λ was. not_there _ was.0 nowhere was.2, held.2),
+    inr (λ was. not_both _ was.0 nowhere was.2, held.0),
+    inr (λ was. not_both _ was.0 nowhere was.2, held.1),
+    inr (λ was. not_both _ was.0 nowhere was.2, held.2),
     one_holds (WasNone renames asked old new) place tally.added few (is, nowhere) held.3,
     held.4,
   )
@@ -80,7 +78,7 @@ module _ (renames : List Renamed) (asked : Option (Bor (List ℕ))) (old new : R
     one_holds (WasOne SeenAlike renames asked old new) place tally.unchanged few (before, is, there, alike) held.0,
     inr (λ was. (same_pair HasOtherTrace before there was).1 alike, held.1),
     inr (λ was. same_pair IsSeenOtherwise before there was (alike_but_trace (subject_at old before) (subject_at new place) alike), held.2),
-    inr (λ was. not_there _ before was.1 there, held.3),
+    inr (λ was. not_both _ before was.1 there, held.3),
     held.4,
   )
   both_more before is there (UnchangedButForTrace trace) parts =
@@ -88,14 +86,14 @@ module _ (renames : List Renamed) (asked : Option (Bor (List ℕ))) (old new : R
         inr (λ was. other (same_pair SeenAlike before there was), held.0),
         one_holds (WasOne HasOtherTrace renames asked old new) place tally.but_for_trace few (before, is, there, (parts.0, other)) held.1,
         inr (λ was. same_pair IsSeenOtherwise before there was parts.0, held.2),
-        inr (λ was. not_there _ before was.1 there, held.3),
+        inr (λ was. not_both _ before was.1 there, held.3),
         held.4,
       )
   both_more before is there (Changed changes) parts = (
     inr (λ was. parts.0 (alike_but_trace (subject_at old before) (subject_at new place) (same_pair SeenAlike before there was)), held.0),
     inr (λ was. parts.0 (same_pair HasOtherTrace before there was).0, held.1),
     one_holds (WasOne IsSeenOtherwise renames asked old new) place tally.changed few (before, is, there, parts.0) held.2,
-    inr (λ was. not_there _ before was.1 there, held.3),
+    inr (λ was. not_both _ before was.1 there, held.3),
     held.4,
   )
 
@@ -140,7 +138,7 @@ module _ (renames : List Renamed) (asked : Option (Bor (List ℕ))) (old new : R
       (held.0, held.1, held.2, held.3, one_holds (IsNoneNow renames asked old new) place tally.removed few (is, nowhere) held.4)
   gone_more counts true (Some after) is there same =
       subst (λ (t : Tally). AreGoneCounts renames asked old new listed (suc place) t) (sym same)
-      (held.0, held.1, held.2, held.3, inr (λ gone. not_there _ after gone.1 there, held.4))
+      (held.0, held.1, held.2, held.3, inr (λ gone. not_both _ after gone.1 there, held.4))
 
 gone_counts : (renames : List Renamed) (asked : Option (Bor (List ℕ))) (old new : Release) (listed : Tally) (places : ℕ) (counts : Tally) → places < 2 ^ 32
     → listed.removed ≡ 0 → InTurn (CountsGone renames asked old new) places listed counts → AreGoneCounts renames asked old new listed places counts

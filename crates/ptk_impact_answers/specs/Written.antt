@@ -48,7 +48,7 @@ counts_of Json tally = counts_text tally
 
 -- ---- one partition
 
--- what stands between the partitions at these places (own)
+-- how the partitions at these places differ (own)
 pub record IsComparison (old : Release) (before : ℕ) (new : Release) (place : ℕ) (comparison : Comparison) : Type 0 where
   pub old_name : comparison.old_name.now ≡ (section_at old.config.now before).name
   pub new_name : comparison.new_name.now ≡ (section_at new.config.now place).name

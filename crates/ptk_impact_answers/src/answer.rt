@@ -46,7 +46,7 @@ impl<'a> Question<'a> {
     }
 }
 
-/// Writes what stands between two configurations: a line for each partition of the new one that is asked for, by its
+/// Writes how two configurations differ: a line for each partition of the new one that is asked for, by its
 /// name or by the one that it had, with what differs beneath, then a line for each that is gone, and a last line that
 /// counts. Gives the counts: how many of these partitions are unchanged, unchanged but for the trace kept, changed, new
 /// and gone. They have no changed, new or gone partition if and only if some partition is asked for and each that is,
@@ -80,8 +80,8 @@ pub fn impact_with<'a, 'f, W: Write>(
     impact_in(Form::Lines, alloc, old, new, question, out)
 }
 
-/// Writes the same as one JSON object on one line, with `\n` behind it: an object for each of these partitions, in the
-/// same order, and the counts. Gives the counts, with the same meaning, and the same faults come.
+/// Writes the same comparison as `impact_with`, as one JSON object on one line with `\n` behind it: an object for each
+/// of these partitions, in the same order, and the counts. Returns the same counts, and the same faults come.
 pub fn impact_json_with<'a, 'f, W: Write>(
     alloc: Global,
     old: Release<'a, 'f>,
@@ -105,7 +105,7 @@ pub fn impact_json_with<'a, 'f, W: Write>(
     impact_in(Form::Json, alloc, old, new, question, out)
 }
 
-/// Writes what stands between two configurations in a form, and gives the counts.
+/// Writes how two configurations differ, in a form, and gives the counts.
 fn impact_in<'a, 'f, W: Write>(
     form: Form,
     alloc: Global,
@@ -245,7 +245,7 @@ impl<'a, 'f> Releases<'a, 'f> {
         Ok(tally)
     }
 
-    /// Writes what stands between each new partition that is asked for and the old one that it was.
+    /// Writes how each new partition that is asked for differs from the old one that it was.
     fn put_all_new<W: Write>(
         &self,
         form: Form,
@@ -287,7 +287,7 @@ impl<'a, 'f> Releases<'a, 'f> {
         Ok(())
     }
 
-    /// Writes what stands between the new partition at this place, if it is asked for, and the old one that it was.
+    /// Writes how the new partition at this place, if it is asked for, differs from the old one that it was.
     fn put_new<W: Write>(
         &self,
         form: Form,
@@ -357,7 +357,7 @@ impl<'a, 'f> Releases<'a, 'f> {
         self.new.place_of(self.renames.new_name(name)?)
     }
 
-    /// Writes what stands between the old and the new partition at these places.
+    /// Writes how the new partition differs from the old one at these places.
     fn put_both<W: Write>(
         &self,
         form: Form,

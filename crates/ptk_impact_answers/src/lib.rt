@@ -21,7 +21,7 @@
 //! - `refusal_of` returns why an image is refused.
 //!
 //! There is a line for each partition of the new configuration, by name, with what differs beneath, then one for each
-//! that is gone, and a last line that counts. Below are what is told of one partition (`ptk_impact_formats`), the
+//! that is gone, and a last line that counts. Below are what is said of one partition (`ptk_impact_formats`), the
 //! configuration (`ptk_config`), images (`ptk_image`) and the faults (`ptk_main_faults`); above is the program, which
 //! reads the files and lends its standard output. The lines are tested in `ptk_main_tests`.
 

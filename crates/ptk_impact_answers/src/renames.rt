@@ -173,10 +173,8 @@ impl<'a> Rename<'a> {
     fn read(text: &'a str) -> Option<Rename<'a>>
         ensures { result ≡ rename_of text.now }
     {
-        match cut(text, '=') {
-            Some((old, new)) => Some(Rename { old, new }),
-            None => None,
-        }
+        let (old, new) = cut(text, '=')?;
+        Some(Rename { old, new })
     }
 
     /// The old name.

@@ -1,4 +1,4 @@
-//! What stands between the old and the new partition.
+//! The comparison of the old partition and the new one.
 
 ghost use Rattle.std.specs.Prelude.{◌≡◌, ◌≢◌, ◌↔◌, ◌||◌, ◌==◌, IsTrue, is_some, map, not, option_map};
 ghost use Rattle.std.specs.Option.{option_copied};
@@ -17,7 +17,7 @@ pub struct Pair<T> {
     pub new: T,
 }
 
-/// What stands between the old and the new partition.
+/// The comparison of the old partition and the new one.
 #[derive(Clone, Copy)]
 pub struct Comparison<'a> {
     /// The old name.

@@ -1,13 +1,13 @@
 #![tactic(auto)]
 
-//! What is told of one partition where two configurations are compared, as lines or as a JSON object, and how many
+//! What is said of one partition where two configurations are compared, as lines or as a JSON object, and how many
 //! partitions have which impact.
 //!
-//! - A partition that both configurations have is told by a line with its name and its answer, then what differs and
-//!   why boot refuses its images, a line each, in their order (`put_lines`: `comparison_lines`), or by one JSON object
-//!   with the same (`json_of`: `IsCompared`).
-//! - One that a single configuration has is told by its line (`put_answer`: `answer_line`), or by an object
-//!   (`json_of_alone`: `IsAlone`).
+//! - Of a partition that both configurations have: a line with its name and its answer, then what differs and why boot
+//!   refuses its images, a line each, in their order (`put_lines`: `comparison_lines`), or one JSON object with the
+//!   same (`json_of`: `IsCompared`).
+//! - Of one that a single configuration has: a line with its name and its answer (`put_answer`: `answer_line`), or an
+//!   object (`json_of_alone`: `IsAlone`).
 //! - The counts go up by one for each partition, and say that a run is the same only where none is changed, new or gone
 //!   (`Tally`: `counted`, `IsClear`); as words they are `counts_words`.
 //!

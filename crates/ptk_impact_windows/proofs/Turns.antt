@@ -1,10 +1,10 @@
 -- What two partitions' next turns say of their ticks.
 use Rattle.std.proofs.Common.{◌≡◌, ◌≢◌, ℕ, ◌<◌, ◌≤◌, ◌==◌, ◌&&◌, true, false, min, Some, None, sym, ap, ◌∙◌, inl, inr, arith}
 use Rattle.std.proofs.lemmas.Bool.{cases_lt, cases_order, and_from, and_parts, both_ways, eq-eqb, eqb-true}
-use Rattle.std.proofs.lemmas.Option.{MatchOption-at_some, MatchOption-at_none, none-some, same_Some}
+use Rattle.std.proofs.lemmas.Option.{MatchOption-at_some, none-some, same_Some}
 use Rattle.ptk_words_windows.specs.Windows.{WindowPlan, IsPlan, IsOwn, IsFirstOwn, own_ticks}
 use Rattle.ptk_words_windows.proofs.OwnLaws.{end_none, window_whole}
-use Rattle.ptk_words_windows.proofs.NextLaws.{next_first}
+use Rattle.ptk_words_windows.proofs.NextLaws.{next_first, quiet_for_ever}
 use Rattle.ptk_window.specs.declared.near.Turn.{Turn}
 use Rattle.ptk_window.specs.Turn.{IsTurn}
 use Rattle.ptk_impact_windows.specs.declared.difference.Difference.{Difference}
@@ -42,10 +42,6 @@ quiet_before plan p tick turn is next k from below = end_none plan p k ((first_t
 
 pub starts_after : (plan : WindowPlan) (p tick : ℕ) (turn : Turn) → IsPlan plan → IsTurn plan p tick turn → tick ≤ turn.start
 starts_after plan p tick turn is next = (first_turn plan p tick turn is next).not_before
-
-pub quiet_for_ever : (plan : WindowPlan) (p tick : ℕ) → IsPlan plan → (own_ticks plan p).next_of tick ≡ None → (k : ℕ) → tick ≤ k → (own_ticks plan p).end_at k ≡ None
-quiet_for_ever plan p tick is none k from =
-    end_none plan p k (MatchOption-at_none ((n : ℕ) → tick ≤ n → ¬ IsOwn plan p n) (IsFirstOwn plan p tick) none (next_first plan p tick is) k from)
 
 -- before the turn's beginning there is no end
 pub no_end_here : (plan : WindowPlan) (p from tick : ℕ) (turn : Turn) → IsPlan plan → IsTurn plan p from turn → from ≤ tick → tick ≤ turn.start → turn.start ≢ tick → None ≡ (own_ticks plan p).end_at tick

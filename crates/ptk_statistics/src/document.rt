@@ -119,10 +119,7 @@ fn put_thread<S: Serializer>(
 fn least_stack_of(thread: &ThreadStatistics) -> Option<u64>
     ensures { result ≡ thread.now.least_stack }
 {
-    match thread.least_stack() {
-        Some(pointer) => Some(u64::from(pointer)),
-        None => None,
-    }
+    Some(u64::from(thread.least_stack()?))
 }
 
 /// Puts a number of own ticks and of all ticks under a key.

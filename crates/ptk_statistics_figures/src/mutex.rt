@@ -31,7 +31,7 @@ impl MutexStatistics {
         }
     }
 
-    /// Its owner, None where nobody owns it, from a moment on.
+    /// From a moment on this is its owner; None where nobody owns it.
     pub fn own_by(&mut self, owner: Option<ThreadNo>, at: Moment)
         ensures { self.new ≡ owned_from owner at self.old }
     {
@@ -59,7 +59,7 @@ impl MutexStatistics {
         self.owner
     }
 
-    /// A thread waited for it, from a moment on.
+    /// A thread waited for it for this time, from a moment on.
     pub fn wait(&mut self, span: Span, thread: ThreadNo, from: Moment)
         ensures { self.new ≡ waited_from span thread from self.old }
     {

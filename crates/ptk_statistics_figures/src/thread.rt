@@ -285,7 +285,7 @@ impl ThreadStatistics {
         self.dispatch
     }
 
-    /// How often it ceased to run and was ready, but by its own sched_yield.
+    /// How often it stopped running and stayed ready, its own sched_yield not counted.
     pub fn preemptions(&self) -> u64
         ensures { result ≡ self.now.preemptions }
     {

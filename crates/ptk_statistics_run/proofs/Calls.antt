@@ -8,7 +8,8 @@ use Rattle.ptk_words.specs.declared.sections.Entry.{Entry}
 use Rattle.ptk_words.specs.declared.sections.Limits.{Limits}
 use Rattle.ptk_words_windows.specs.Windows.{OwnTicks, own_ticks}
 use Rattle.ptk_words_model.specs.State.{State}
-use Rattle.ptk_words_model.specs.Run.{after_tick_until, decided, is_at}
+use Rattle.ptk_words_model.specs.Run.{decided, is_at}
+use Rattle.ptk_words_batches.proofs.TicksInARow.{idle_tick}
 use Rattle.ptk_main_runs.specs.World.{World, alone_in, at_tick, section_at, state_of}
 use Rattle.ptk_main_runs.proofs.Keeping.{alone_at}
 use Rattle.ptk_statistics_figures.specs.declared.doing.Doing.{Doing}
@@ -55,10 +56,6 @@ not_at : (tick : ℕ) (next : Option ℕ) → option_eq nat_eq next (Some tick) 
 not_at tick None undue = refl
 not_at tick (Some n) undue = undue
 
-not_decided : (end : Option ℕ) (ticks : OwnTicks) (limits : Limits) (tick : ℕ) (s : State) → is_at tick s.account.next ≡ false → after_tick_until end ticks limits tick s ≡ s
-not_decided None ticks limits tick s undue = refl
-not_decided (Some end) ticks limits tick s undue = ap (λ (b : Bool). if b then decided ticks limits tick (end - tick) s else s) undue
-
 -- behind it its state is as it was
 pub undue_stays : (world : World) (p : ℕ) → world ≡ at_tick world.tick world → p < length world.config.sections → is_due_at world p ≡ false → state_of (at_tick (world.tick + 1) world) p ≡ state_of world p
 undue_stays world p alone lt undue =
@@ -68,7 +65,7 @@ undue_stays world p alone lt undue =
     let here : state_of world p ≡ alone_in world.config world.files p world.tick = ap (λ (w : World). state_of w p) alone ∙ alone_at world.config world.files world.tick p lt in
     let none : is_at world.tick s.account.next ≡ false = not_at world.tick s.account.next (sym (ap (λ (u : State). option_eq nat_eq u.account.next (Some world.tick)) here) ∙ undue) in
     let stays : alone_in world.config world.files p (world.tick + 1) ≡ alone_in world.config world.files p world.tick =
-    ap (λ (n : ℕ). alone_in world.config world.files p n) (add-one world.tick) ∙ not_decided (ticks.end_at world.tick) ticks limits world.tick s none in
+    ap (λ (n : ℕ). alone_in world.config world.files p n) (add-one world.tick) ∙ idle_tick ticks limits world.tick (ticks.end_at world.tick) s none in
     alone_at world.config world.files (world.tick + 1) p lt ∙ (stays ∙ sym here)
 
 -- ---- each step is looked at

@@ -7,6 +7,7 @@ use Rattle.ptk_words.specs.declared.TheConstants.{A7, ECALL}
 use Rattle.ptk_words.specs.declared.sections.Entry.{Entry}
 use Rattle.ptk_words.specs.Calls.{number_of}
 use Rattle.ptk_words.specs.declared.calls.Call.TheVariants.{PthreadExit}
+use Rattle.ptk_words.proofs.Options.{same_either_way}
 use Rattle.ptk_words_model.specs.State.{Part, State}
 use Rattle.ptk_main_runs.specs.Activities.{activity_in}
 use Rattle.ptk_main_runs.specs.Told.{register_in}
@@ -56,13 +57,9 @@ below_same states t place a (suc b) le still =
 plain_number : (entry : Entry) (s : Part) → (entry.word == ECALL) ≡ false → number_in entry s ≡ None
 plain_number entry s plain = ap (λ (b : Bool). if b then Some (unwrap_or (register_in entry.thread A7 s) (number_of PthreadExit)) else None) plain
 
-either_way : (b : Bool) (n : ℕ) → (if b then n else n) ≡ n
-either_way true n = refl
-either_way false n = refl
-
 -- and is counted nowhere
 plain_count : (t place : ℕ) (s : Part) (entry : Entry) → (entry.word == ECALL) ≡ false → call_count t place s (Some entry) ≡ 0
-plain_count t place s entry plain = ap (λ (o : Option ℕ). if entry.thread == t then number_count place o else 0) (plain_number entry s plain) ∙ either_way (entry.thread == t) 0
+plain_count t place s entry plain = ap (λ (o : Option ℕ). if entry.thread == t then number_count place o else 0) (plain_number entry s plain) ∙ same_either_way (entry.thread == t) 0
 
 -- ---- a row of ticks
 

@@ -1,7 +1,7 @@
 -- Why the own ticks of a run are counted by what became of them, and its steps by their threads.
-use Rattle.std.proofs.Common.{◌≡◌, ℕ, suc, ◌+◌, ◌<◌, ◌≤◌, Bool, true, false, if◌then◌else◌, List, length, get_or, Option, Some, None, refl, sym, ap, subst, ◌∙◌, ◌⊎◌, inl, inr, add-one, eqb-true, arith}
+use Rattle.std.proofs.Common.{◌≡◌, ℕ, suc, ◌+◌, ◌<◌, ◌≤◌, Bool, true, false, if◌then◌else◌, List, length, get_or, Option, Some, None, refl, sym, ap, subst, ◌∙◌, ◌⊎◌, inl, inr, add-one, arith}
 use Rattle.std.specs.Prelude.{MatchBool, unwrap_or}
-use Rattle.std.proofs.lemmas.Bool.{cases_lt, false≢true}
+use Rattle.std.proofs.lemmas.Bool.{cases_lt}
 use Rattle.std.proofs.lemmas.List.{get_or-replicate, length-replicate}
 use Rattle.ptk_words.specs.Threads.{is_ended}
 use Rattle.ptk_words.specs.declared.TheConstants.{THREAD_LIMIT}
@@ -14,6 +14,7 @@ use Rattle.ptk_words_model.specs.Decision.{runner_at, runner_in, runner_of}
 use Rattle.ptk_words_model.specs.Priority.{thread_at}
 use Rattle.ptk_words_model.specs.Run.{next_from}
 use Rattle.ptk_words_model.specs.Schedule.{is_running}
+use Rattle.ptk_words_model.proofs.Runners.{runner_is}
 use Rattle.ptk_main_runs.specs.Activities.{activity_in, activity_of_number, activity_of_wait}
 use Rattle.ptk_main_runs.specs.Activity.TheVariants.{Ended, Halted, Running}
 use Rattle.ptk_main_runs.specs.Going.{GoesOnAsIs}
@@ -50,10 +51,6 @@ runs_in_use active runs None e = absurd (let no : ⊥ = cc in no)
 runs_in_use active true (Some thread) e = (refl, λ none. (let no : ⊥ = cc in no))
 runs_in_use active false (Some thread) e = absurd (not_running (is_ended thread.phase) active thread.wait e)
 
-is_the_one : (t : ℕ) (running : Option ℕ) → is_running t running ≡ true → running ≡ Some t
-is_the_one t None e = absurd (false≢true e)
-is_the_one t (Some r) e = ap Some (eqb-true r t e)
-
 no_runner : (t : ℕ) (o : Option Thread) → runner_at t o ≡ None → o ≡ None
 no_runner t None e = refl
 no_runner t (Some thread) e = absurd (let no : ⊥ = cc in no)
@@ -65,7 +62,7 @@ runner_there (Some r) s t e in_use none =
     in_use (ap (λ (k : ℕ). thread_at s.locks k) (sym same) ∙ no_runner r (thread_at s.locks r) none)
 
 running_is : (s : Part) (t : ℕ) → activity_in t s ≡ Running → s.running ≡ Some t
-running_is s t e = is_the_one t s.running (runs_in_use _ (is_running t s.running) (thread_at s.locks t) e).0
+running_is s t e = runner_is t s.running (runs_in_use _ (is_running t s.running) (thread_at s.locks t) e).0
 
 running_goes : (s : Part) (t : ℕ) → activity_in t s ≡ Running → runner_of s ≡ None → ⊥
 running_goes s t e none = runner_there s.running s t (running_is s t e) (runs_in_use _ (is_running t s.running) (thread_at s.locks t) e).1 none

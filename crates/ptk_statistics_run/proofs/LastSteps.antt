@@ -1,16 +1,17 @@
 -- What a tick makes of a partition's steps and of its last step.
 use Rattle.std.proofs.Common.{◌≡◌, ℕ, zero, suc, ◌+◌, ◌-◌, ◌<◌, ◌≤◌, Bool, true, false, cond, List, [], ◌∷◌, Option, Some, None, Result, Ok, Err, refl, sym, ap, subst, ◌∙◌, ◌⊎◌, inl, inr, eq-eqb, arith}
-use Rattle.std.specs.Prelude.{fold, nat_le, nat_lt, ◌==◌, ◌&&◌, if◌then◌else◌, option_and_then, unwrap_or, length}
+use Rattle.std.specs.Prelude.{fold, nat_lt, ◌==◌, if◌then◌else◌, option_and_then, length}
 use Rattle.std.proofs.lemmas.Bool.{cases_lt, cond_both, le-ltb, lt-ltb, ne_eqb}
+use Rattle.std.proofs.lemmas.Option.{same_Some}
 use Rattle.ptk_words.specs.Image.{ImageParts, image_of}
 use Rattle.ptk_words.specs.declared.faults.ImageFault.{ImageFault}
-use Rattle.ptk_words.specs.declared.faults.Status.{Status}
 use Rattle.ptk_words.specs.declared.sections.Arrival.{Arrival}
 use Rattle.ptk_words.specs.declared.sections.Entry.{Entry}
 use Rattle.ptk_words.specs.declared.sections.Limits.{Limits}
 use Rattle.ptk_words.specs.declared.threads.Thread.{Thread}
 use Rattle.ptk_words.specs.declared.threads.Wait.{Wait}
 use Rattle.ptk_words.specs.declared.threads.Wait.TheVariants.{InputWait, SleepWait, JoinWait, MutexWait, ConditionWait, RelockWait}
+use Rattle.ptk_words.proofs.Options.{not_both}
 use Rattle.ptk_words_windows.specs.Windows.{OwnTicks, own_ticks}
 use Rattle.ptk_words_model.specs.declared.Runner.{Runner}
 use Rattle.ptk_words_model.specs.declared.StepKind.{StepKind}
@@ -18,10 +19,11 @@ use Rattle.ptk_words_model.specs.State.{Part, State, with_console, with_locks}
 use Rattle.ptk_words_model.specs.Console.{arriving, without_arriving}
 use Rattle.ptk_words_model.specs.Mutex.{wait_of}
 use Rattle.ptk_words_model.specs.Priority.{effective_priority, thread_at}
-use Rattle.ptk_words_model.specs.Schedule.{after_choice_between, after_dispatch, after_interval, after_turn_end, at_head, first_ready, is_round_robin, is_running, with_thread_used}
+use Rattle.ptk_words_model.specs.Schedule.{after_choice_between, after_dispatch, at_head, first_ready}
 use Rattle.ptk_words_model.specs.Withdrawal.{Expiry, after_expiries, after_timeout, due, in_order}
 use Rattle.ptk_words_model.specs.Decision.{Decision, after_arrival, after_arrival_for, after_arrivals, after_step, after_turn, entry_of, first_waiter, ready_at, runner_at, runner_in, runner_of, spent_in_turn, step_cost, step_kind}
 use Rattle.ptk_words_model.specs.Run.{accounted, after_tick_until, decided, empty_part, fits, is_at, with_image, with_image_bytes}
+use Rattle.ptk_words_model.proofs.Runners.{interval_last}
 use Rattle.ptk_main_runs.specs.Missing.{image_in}
 use Rattle.ptk_main_runs.specs.World.{World, alone_in, at_tick, section_at, state_of}
 use Rattle.ptk_main_runs.proofs.Keeping.{alone_at}
@@ -30,23 +32,19 @@ use Rattle.ptk_statistics_run.specs.Observations.{step_at}
 
 -- ---- before the turn
 
--- the last step, and what became of the partition
-abbrev kept : Part → Option Entry × Status
-kept s = (s.last, s.status)
-
 either_same : {X : Type 0} (f : Part → X) (b : Bool) (x y : Part) (value : X) → f x ≡ value → f y ≡ value → f (cond b x y) ≡ value
 either_same f true x y value one other = one
 either_same f false x y value one other = other
 
-arrival_kept : (o : Option ℕ) (limit byte : ℕ) (s : Part) → kept (after_arrival_for o limit byte s) ≡ kept s
+arrival_kept : (o : Option ℕ) (limit byte : ℕ) (s : Part) → (after_arrival_for o limit byte s).last ≡ s.last
 arrival_kept None limit byte s = refl
 arrival_kept (Some t) limit byte s = refl
 
-arrivals_kept : (limit : ℕ) (arrivals : List Arrival) (s : Part) → kept (fold (after_arrival limit) s arrivals) ≡ kept s
+arrivals_kept : (limit : ℕ) (arrivals : List Arrival) (s : Part) → (fold (after_arrival limit) s arrivals).last ≡ s.last
 arrivals_kept limit [] s = refl
 arrivals_kept limit (arrival ∷ arrivals) s = arrivals_kept limit arrivals (after_arrival limit s arrival) ∙ arrival_kept (first_waiter s) limit arrival.byte s
 
-timeout_kept : (t : ℕ) (wait : Option Wait) (s : Part) → kept (after_timeout t wait s) ≡ kept s
+timeout_kept : (t : ℕ) (wait : Option Wait) (s : Part) → (after_timeout t wait s).last ≡ s.last
 timeout_kept t None s = refl
 timeout_kept t (Some InputWait) s = refl
 timeout_kept t (Some (SleepWait deadline)) s = refl
@@ -59,40 +57,27 @@ timeout_kept t (Some (RelockWait m reply)) s = refl
 abbrev expired : Part → Expiry → Part
 expired s a = after_timeout a.thread (wait_of (thread_at s.locks a.thread)) s
 
-expiries_kept : (expiries : List Expiry) (s : Part) → kept (fold expired s expiries) ≡ kept s
+expiries_kept : (expiries : List Expiry) (s : Part) → (fold expired s expiries).last ≡ s.last
 expiries_kept [] s = refl
 expiries_kept (a ∷ expiries) s = expiries_kept expiries (expired s a) ∙ timeout_kept a.thread (wait_of (thread_at s.locks a.thread)) s
 
-choice_kept : (running first : Option ℕ) (s : Part) → kept (after_choice_between running first s) ≡ kept s
+choice_kept : (running first : Option ℕ) (s : Part) → (after_choice_between running first s).last ≡ s.last
 choice_kept None None s = refl
 choice_kept (Some r) None s = refl
 choice_kept None (Some t) s = refl
 choice_kept (Some r) (Some t) s =
-    either_same kept (nat_lt (effective_priority s.locks r) (effective_priority s.locks t)) (after_dispatch t (with_locks (at_head r) s)) s (kept s) refl refl
+    either_same (λ (it : Part). it.last) (nat_lt (effective_priority s.locks r) (effective_priority s.locks t)) (after_dispatch t (with_locks (at_head r) s)) s s.last refl refl
 
--- arrivals, expiries and the choice leave both
-ready_kept : (limits : Limits) (tick : ℕ) (s : Part) → kept (ready_at limits tick s) ≡ kept s
-ready_kept limits tick s =
+-- arrivals, expiries and the choice leave the last step
+ready_last : (limits : Limits) (tick : ℕ) (s : Part) → (ready_at limits tick s).last ≡ s.last
+ready_last limits tick s =
     let arrived : Part = after_arrivals limits tick s in
     let expired_by : Part = after_expiries tick arrived in
     choice_kept expired_by.running (first_ready expired_by.locks) expired_by
     ∙ (expiries_kept (in_order (due tick arrived)) arrived
     ∙ arrivals_kept limits.ring (arriving tick s.console) (with_console (without_arriving tick) s))
 
-ready_last : (limits : Limits) (tick : ℕ) (s : Part) → (ready_at limits tick s).last ≡ s.last
-ready_last limits tick s = ap (λ (it : Option Entry × Status). it.0) (ready_kept limits tick s)
-
-pub ready_status : (limits : Limits) (tick : ℕ) (s : Part) → (ready_at limits tick s).status ≡ s.status
-ready_status limits tick s = ap (λ (it : Option Entry × Status). it.1) (ready_kept limits tick s)
-
 -- ---- the turn
-
-interval_last : (interval cost t : ℕ) (o : Option Thread) (s : Part) → (after_interval interval cost t o s).last ≡ s.last
-interval_last interval cost t None s = refl
-interval_last interval cost t (Some thread) s =
-    either_same (λ (it : Part). it.last) (is_running t s.running && is_round_robin thread.policy)
-    (if nat_le interval (thread.used + cost) then after_turn_end t s else with_thread_used t (thread.used + cost) s) s s.last
-    (either_same (λ (it : Part). it.last) (nat_le interval (thread.used + cost)) (after_turn_end t s) (with_thread_used t (thread.used + cost) s) s.last refl refl) refl
 
 -- a tick makes no step, and the last one stays; or it makes one more, which is the last one then
 pub data IsOneTick (tick : ℕ) (old new : State) : Type 0 where
@@ -162,20 +147,14 @@ none_first world p lt =
 
 -- ---- a step that was made
 
-pub some_same : (a b : Entry) → Some a ≡ Some b → a ≡ b
-some_same a b e = ap (λ (o : Option Entry). unwrap_or o a) e
-
-no_some : (o : Option Entry) (entry : Entry) → o ≡ None → o ≡ Some entry → ⊥
-no_some o entry none is = let same : None ≡ Some entry = sym none ∙ is in let no : ⊥ = cc in no
-
 last_one : (n : ℕ) (old new : State) (entry : Entry) → ((e : Entry) → old.part.last ≡ Some e → e.tick < n) → IsOneTick n old new → new.part.last ≡ Some entry → entry.tick < suc n
 last_one n old new entry before (no_step same last) e = let it : entry.tick < n = before entry (sym last ∙ e) in omega (arith, it)
 last_one n old new entry before (one_step made steps last at positive) e =
-    let it : made.tick ≡ entry.tick = ap (λ (x : Entry). x.tick) (some_same made entry (sym last ∙ e)) in omega (arith, it, at)
+    let it : made.tick ≡ entry.tick = ap (λ (x : Entry). x.tick) (same_Some made entry (sym last ∙ e)) in omega (arith, it, at)
 
 -- the last step is before the tick
 pub last_before : (states : ℕ → State) → (states 0).part.last ≡ None → ((k : ℕ) → IsOneTick k (states k) (states (suc k))) → (n : ℕ) (entry : Entry) → (states n).part.last ≡ Some entry → entry.tick < n
-last_before states none goes zero entry e = absurd (no_some (states 0).part.last entry none e)
+last_before states none goes zero entry e = absurd (not_both (states 0).part.last entry none e)
 last_before states none goes (suc n) entry e = last_one n (states n) (states (suc n)) entry (last_before states none goes n) (goes n) e
 
 -- no step
@@ -201,9 +180,9 @@ step_made_at n old new before (one_step entry steps last at positive) =
 
 -- whose number is one of a thread
 pub made_positive : (n : ℕ) (old new : State) (entry : Entry) → IsOneTick n old new → step_made old new ≡ Some entry → 0 < entry.thread
-made_positive n old new entry (no_step same last) e = absurd (no_some (step_made old new) entry (none_made old new same) e)
+made_positive n old new entry (no_step same last) e = absurd (not_both (step_made old new) entry (none_made old new same) e)
 made_positive n old new entry (one_step made steps last at positive) e =
-    subst (λ (it : Entry). 0 < it.thread) (some_same made entry (sym (some_made old new made (omega (arith, steps)) last) ∙ e)) positive
+    subst (λ (it : Entry). 0 < it.thread) (same_Some made entry (sym (some_made old new made (omega (arith, steps)) last) ∙ e)) positive
 
 -- steps never become fewer
 one_no_fewer : (n : ℕ) (old new : State) → IsOneTick n old new → old.account.steps ≤ new.account.steps

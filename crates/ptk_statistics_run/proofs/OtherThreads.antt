@@ -14,7 +14,8 @@ use Rattle.ptk_words_model.specs.declared.StepKind.{StepKind}
 use Rattle.ptk_words_model.specs.State.{Part}
 use Rattle.ptk_words_model.specs.Priority.{thread_at}
 use Rattle.ptk_words_model.specs.Schedule.{is_running}
-use Rattle.ptk_words_model.specs.Decision.{Decision, after_decision, after_turn, ready_at, runner_at, runner_in, runner_of, step_cost, step_kind}
+use Rattle.ptk_words_model.specs.Decision.{Decision, after_decision, after_turn, ready_at, runner_in, runner_of, step_cost, step_kind}
+use Rattle.ptk_words_model.proofs.Runners.{number_at}
 use Rattle.ptk_words_laws.specs.Callers.{RunsNoOther}
 use Rattle.ptk_words_laws.specs.Others.{IsLeftBy, standing}
 use Rattle.ptk_words_laws.proofs.Callers.Rows.{steps_run_no_others}
@@ -42,17 +43,9 @@ not_running : (t u : ℕ) (running : Option ℕ) → t ≢ u → RunsNoOther u r
 not_running t u None differ runs = refl
 not_running t u (Some r) differ runs = ne_eqb r t (λ e. differ (sym e ∙ runs))
 
-abbrev number_of_runner : Option Runner → ℕ
-number_of_runner None = 0
-number_of_runner (Some r) = r.number
-
-runner_runs_at : (u : ℕ) (o : Option Thread) (r : Runner) → runner_at u o ≡ Some r → u ≡ r.number
-runner_runs_at u None r e = absurd (let no : ⊥ = cc in no)
-runner_runs_at u (Some thread) r e = ap number_of_runner e
-
 runner_runs : (running : Option ℕ) (s : Part) (r : Runner) → runner_in running s ≡ Some r → RunsNoOther r.number running
 runner_runs None s r e = tt
-runner_runs (Some u) s r e = runner_runs_at u (thread_at s.locks u) r e
+runner_runs (Some u) s r e = number_at u (thread_at s.locks u) r e
 
 turn_runs : (limits : Limits) (tick room t : ℕ) (o : Option Runner) (s : Part) → runner_of s ≡ o → is_running t s.running ≡ false → IsLeftBy t s o → is_running t (after_turn limits tick room o s).running ≡ false
 turn_runs limits tick room t None s e waits left = waits

@@ -1,8 +1,8 @@
 -- The figures of all partitions, as they are gathered.
-use Rattle.std.proofs.Common.{◌≡◌, ◌≢◌, ℕ, ◌+◌, ◌<◌, ◌≤◌, List, ◌++◌, length, take, drop, get_or, ◌⊎◌, inl, inr, refl, sym, ap, subst, ◌∙◌, arith, get_or-set_same, get_or-set_other}
+use Rattle.std.proofs.Common.{◌≡◌, ◌≢◌, ℕ, ◌+◌, ◌<◌, ◌≤◌, List, length, get_or, ◌⊎◌, inl, inr, refl, sym, ap, subst, ◌∙◌, arith, get_or-set_same, get_or-set_other}
 use Rattle.std.proofs.Math.ListN.{set}
 use Rattle.std.proofs.lemmas.Bool.{cases_lt}
-use Rattle.std.proofs.lemmas.List.{length-set, take-append-le, take_all}
+use Rattle.std.proofs.lemmas.List.{length-set}
 use Rattle.ptk_words.proofs.Lists.{AreEach}
 use Rattle.ptk_main_runs.specs.World.{World, at_tick}
 use Rattle.ptk_statistics_run.specs.declared.part.PartStatistics.{PartStatistics}
@@ -62,12 +62,6 @@ ended_on world parts i new within are here =
     each_set (λ p part. p < i → reached part.counted ≡ world.tick) (λ p part. p < i + 1 → reached part.counted ≡ world.tick) parts i new within
     (record { each = λ p default lt below. are p default below lt }) (λ q y differ is below. is (omega (arith, below, differ))) (λ below. here) in
     λ p default below lt. all.each p default lt below
-
--- what a slice of a vector's items is once it is written back
-pub written : {A : Type 0} (new items : List A) (n : ℕ) → n ≡ length new → take n (new ++ drop (length new) items) ≡ new
-written new items n all =
-    ap (λ (k : ℕ). take k (new ++ drop (length new) items)) all
-    ∙ (take-append-le (length new) new (drop (length new) items) (omega arith) ∙ take_all (length new) new (omega arith))
 
 -- the figures of all partitions that are counted to the end agree with the system
 pub all_agree : (world : World) (statistics : Statistics) (parts : List PartStatistics) → world ≡ at_tick world.tick world → statistics.parts.items ≡ parts → AreKept world parts → AreEnded world (length parts) parts → AgreesWith world statistics

@@ -2,8 +2,10 @@
 use Rattle.std.proofs.Common.{◌≡◌, ◌≢◌, ℕ, zero, suc, ◌+◌, ◌-◌, ◌<◌, ◌≤◌, Bool, true, false, if◌then◌else◌, ◌==◌, List, length, get_or, set, Option, Some, None, refl, sym, ap, ◌∙◌, ◌⊎◌, inl, inr, eq-eqb, get_or-set_same, get_or-set_other, arith}
 use Rattle.std.proofs.lemmas.Bool.{cases_eq, cases_lt, ne_eqb}
 use Rattle.std.proofs.lemmas.List.{length-set}
+use Rattle.std.proofs.lemmas.Option.{same_Some}
 use Rattle.ptk_words.specs.declared.TheConstants.{THREAD_LIMIT}
 use Rattle.ptk_words.specs.declared.sections.Entry.{Entry}
+use Rattle.ptk_words.proofs.Options.{zero_either_way}
 use Rattle.ptk_words_windows.specs.Windows.{OwnTicks}
 use Rattle.ptk_words_model.specs.State.{State}
 use Rattle.ptk_statistics_figures.specs.Counts.{Counts, counts_on}
@@ -11,7 +13,7 @@ use Rattle.ptk_statistics_run.specs.Calls.{step_made}
 use Rattle.ptk_statistics_run.specs.Observations.{place_of_last}
 use Rattle.ptk_statistics_run.specs.Sums.{seen_in}
 use Rattle.ptk_statistics_run.specs.Uses.{step_count, steps_below}
-use Rattle.ptk_statistics_run.proofs.LastSteps.{IsOneTick, no_fewer_steps, no_step, none_made, one_step, some_made, some_same}
+use Rattle.ptk_statistics_run.proofs.LastSteps.{IsOneTick, no_fewer_steps, no_step, none_made, one_step, some_made}
 use Rattle.ptk_statistics_run.proofs.UsesOver.{IsSteady}
 
 -- ---- ticks at which one thread runs
@@ -22,16 +24,12 @@ record IsRunBy (states : ℕ → State) (a n r : ℕ) : Type 0 where
   last : ((states n).account.steps ≡ (states a).account.steps) ⊎ (place_of_last (states n).part.last ≡ r - 1)
   positive : ((states n).account.steps ≡ (states a).account.steps) ⊎ (0 < r)
 
-either_none : (b : Bool) (d : ℕ) → d ≡ 0 → (if b then d else 0) ≡ 0
-either_none true d e = e
-either_none false d e = refl
-
 run_here : (states : ℕ → State) (a n r : ℕ) → n ≡ a → IsRunBy states a n r
 run_here states a n r at =
     let same : (states n).account.steps ≡ (states a).account.steps = ap (λ (k : ℕ). (states k).account.steps) at in
     record {
       steps = λ t.
-          let none : (if r == t then (states n).account.steps - (states a).account.steps else 0) ≡ 0 = either_none (r == t) ((states n).account.steps - (states a).account.steps) (omega (arith, same)) in
+          let none : (if r == t then (states n).account.steps - (states a).account.steps else 0) ≡ 0 = zero_either_way (r == t) ((states n).account.steps - (states a).account.steps) (omega (arith, same)) in
           omega (arith, none, ap (λ (k : ℕ). steps_below states t k) at);
       last = inl same;
       positive = inl same;
@@ -104,7 +102,7 @@ steps_set : (xs : List ℕ) (place r d i : ℕ) → i < length xs → (d ≡ 0) 
 steps_set xs place r d i lt at positive = by (cases_eq i place) at positive
   where
     none : d ≡ 0 → (if r == i + 1 then d else 0) ≡ 0
-    none e = either_none (r == i + 1) d e
+    none e = zero_either_way (r == i + 1) d e
 
     same_place : i ≡ place → get_or (set xs place (get_or xs place 0 + d)) i 0 ≡ get_or xs i 0 + d
     same_place same =
@@ -155,4 +153,4 @@ steps_over_one ticks states n (no_step same last) c made are =
     (run_one states n n 0 (omega arith) (λ entry more e. absurd (omega (arith, more, same))) (no_step same last) (run_here states n n 0 refl))
 steps_over_one ticks states n (one_step entry steps last at positive) c made are =
     steps_by ticks states n (suc n) entry.thread c made are
-    (run_one states n n entry.thread (omega arith) (λ other more e. ap (λ (it : Entry). it.thread) (some_same other entry (sym e ∙ last))) (one_step entry steps last at positive) (run_here states n n entry.thread refl))
+    (run_one states n n entry.thread (omega arith) (λ other more e. ap (λ (it : Entry). it.thread) (same_Some other entry (sym e ∙ last))) (one_step entry steps last at positive) (run_here states n n entry.thread refl))

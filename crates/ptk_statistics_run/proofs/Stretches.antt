@@ -2,7 +2,7 @@
 use Rattle.std.proofs.Common.{◌≡◌, ◌≢◌, ℕ, ◌<◌, ◌≤◌, max, Bool, true, false, cond, nat_lt, ◌==◌, List, length, get_or, Some, None, position, ◌⊎◌, sym, ap, subst, ◌∙◌, arith, inl, inr}
 use Rattle.std.specs.List.{position_or_len}
 use Rattle.std.specs.Prelude.{MatchBool}
-use Rattle.std.proofs.lemmas.Bool.{and_parts, cases_eq, eq-eqb, eqb-true, false≢true, le-ltb, lt-ltb, ltb-true, or_cases, or_parts}
+use Rattle.std.proofs.lemmas.Bool.{and_parts, cases_eq, eq-eqb, eqb-true, false≢true, le-ltb, ltb-true, or_cases, or_parts}
 use Rattle.std.proofs.lemmas.List.Sums.{position_or_len_is}
 use Rattle.ptk_main_runs.specs.Going.{GoesOnAsIs, StaysBehindCall}
 use Rattle.ptk_main_runs.specs.World.{World, at_tick, but_next, state_of}
@@ -12,12 +12,6 @@ use Rattle.ptk_statistics_run.specs.Parts.{AreBehindRows}
 use Rattle.ptk_statistics_run.specs.Stretches.{AreDecided, AreGathered, IsRow, IsRowOn, IsStillTo, IsStretch, are_due_behind, at_first, ends_behind_plain_step, gone_on, is_behind_plain_step, is_running_at}
 
 -- ---- the first that passes
-
-pub first_here : {A : Type 0} (p : A → Bool) (xs : List A) (i : ℕ) (default : A) → i < length xs → ((k : ℕ) → k < i → p (get_or xs k default) ≡ false) → p (get_or xs i default) ≡ true
-    → position p xs ≡ Some i
-first_here p xs i default within none here =
-    let at : position_or_len p xs ≡ i = position_or_len_is p xs i default (omega (arith, within)) none (λ _. here) in
-    ap (λ (k : ℕ). cond (nat_lt k (length xs)) (Some k) None) at ∙ ap (λ (b : Bool). cond b (Some i) None) (lt-ltb i (length xs) within)
 
 pub first_nowhere : {A : Type 0} (p : A → Bool) (xs : List A) (default : A) → ((k : ℕ) → k < length xs → p (get_or xs k default) ≡ false) → position p xs ≡ None
 first_nowhere p xs default none =

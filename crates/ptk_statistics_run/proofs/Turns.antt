@@ -15,11 +15,11 @@ use Rattle.ptk_words_model.specs.declared.StepKind.TheVariants.{UnwindingStart, 
 use Rattle.ptk_words_model.specs.State.{Part, State}
 use Rattle.ptk_words_model.specs.Decision.{Decision, after_turn, ready_at, runner_of, spent_in_turn, step_cost, step_kind}
 use Rattle.ptk_words_model.specs.Run.{accounted, after_tick_until, decided, is_at, next_from}
+use Rattle.ptk_words_batches.proofs.PreparedTicks.{ready_status}
 use Rattle.ptk_main_runs.specs.Told.{is_halted, status_in, told_status}
 use Rattle.ptk_main_runs.specs.World.{World, alone_in, at_tick, section_at, state_of}
 use Rattle.ptk_main_runs.proofs.Keeping.{alone_at}
 use Rattle.ptk_statistics_run.specs.Parts.{is_due_in}
-use Rattle.ptk_statistics_run.proofs.LastSteps.{ready_status}
 
 -- ---- halted and due
 

@@ -5,8 +5,9 @@ use Rattle.std.proofs.lemmas.Bool.{cases_lt, false≢true, le-ltb, lt-ltb}
 use Rattle.std.proofs.lemmas.Option.{MatchOption-at_some}
 use Rattle.ptk_words.specs.Faults.{is_active}
 use Rattle.ptk_words.specs.declared.faults.Status.{Status}
+use Rattle.ptk_words.proofs.Options.{not_both}
 use Rattle.ptk_words_windows.specs.Windows.{IsFirstOwn, IsOwn, IsOwnUntil, IsPlan, OwnTicks, WindowPlan, own_ticks}
-use Rattle.ptk_words_windows.proofs.NextLaws.{next_first}
+use Rattle.ptk_words_windows.proofs.NextLaws.{next_first, quiet_for_ever}
 use Rattle.ptk_words_windows.proofs.OwnLaws.{end_none, end_of_window, window_whole}
 use Rattle.ptk_words_model.specs.State.{State}
 use Rattle.ptk_words_model.specs.Run.{next_from}
@@ -39,15 +40,10 @@ next_is plan p tick n is e =
       least = λ k from lt. end_none plan p k (first.least k from lt);
     }
 
-never_is : (plan : WindowPlan) (p tick : ℕ) → IsPlan plan → (own_ticks plan p).next_of tick ≡ None → (k : ℕ) → tick ≤ k → (own_ticks plan p).end_at k ≡ None
-never_is plan p tick is e k from =
-    let none : (n : ℕ) → tick ≤ n → ¬ IsOwn plan p n = subst (λ (o : Option ℕ). MatchOption o ((n : ℕ) → tick ≤ n → ¬ IsOwn plan p n) (IsFirstOwn plan p tick)) e (next_first plan p tick is) in
-    end_none plan p k (none k from)
-
 pub plan_windows : (plan : WindowPlan) (p : ℕ) → IsPlan plan → AreWindows (own_ticks plan p)
 plan_windows plan p is = record {
   next = λ tick n e. next_is plan p tick n is e;
-  never = λ tick e. never_is plan p tick is e;
+  never = λ tick e. quiet_for_ever plan p tick is e;
   on = λ tick end e. (window_whole plan p tick end is e).0;
   whole = λ tick end e. (window_whole plan p tick end is e).2;
 }
@@ -109,12 +105,9 @@ pub record IsAhead (ticks : OwnTicks) (states : ℕ → State) (n : ℕ) : Type 
   pub lost : (states n).account.lost ≡ uses_below ticks states is_lost n + ahead_of fate until n
   pub so : IsUse fate until n (is_active (states n).part.status)
 
-no_some : (n : ℕ) (o : Option ℕ) → o ≡ None → o ≡ Some n → ⊥
-no_some n o none is = let same : None ≡ Some n = sym none ∙ is in let no : ⊥ = cc in no
-
 pub from_next : (b : Bool) (o : Option ℕ) (m : ℕ) → (if b then o else None) ≡ Some m → (b ≡ true) × (o ≡ Some m)
 from_next true o m e = (refl, e)
-from_next false o m e = absurd (no_some m None refl e)
+from_next false o m e = absurd (not_both None m refl e)
 
 later_from : (ticks : OwnTicks) (status : Status) (until m : ℕ) → AreWindows ticks → next_from ticks status until ≡ Some m → until ≤ m
 later_from ticks status until m windows e = (windows.next until m (from_next (is_active status) (ticks.next_of until) m e).1).not_before
@@ -210,10 +203,10 @@ module _ (ticks : OwnTicks) (states : ℕ → State) (n : ℕ) (windows : AreWin
       next_is_of = so.next ∙ ap (λ (b : Bool). if b then ticks.next_of so.until else None) active
 
       by_next : so.until ≤ n → (o : Option ℕ) → ticks.next_of so.until ≡ o → n < so.until
-      by_next past None e = absurd (no_some end (ticks.end_at n) (windows.never so.until e n past) own)
+      by_next past None e = absurd (not_both (ticks.end_at n) end (windows.never so.until e n past) own)
       by_next past (Some m) e =
           let lt : n < m = strictly undue m (next_is_of ∙ e) in
-          absurd (no_some end (ticks.end_at n) ((windows.next so.until m e).least n past lt) own)
+          absurd (not_both (ticks.end_at n) end ((windows.next so.until m e).least n past lt) own)
 
       by : (n < so.until) ⊎ (so.until ≤ n) → n < so.until
       by (inl lt) = lt
@@ -223,7 +216,7 @@ module _ (ticks : OwnTicks) (states : ℕ → State) (n : ℕ) (windows : AreWin
   going_stays same active undue =
       let fate : last_use states (suc n) ≡ so.fate = use_on states n (is_going (states n).part true active) undue ∙ so.used in
       let comes : ahead_of so.fate so.until n ≡ use_count is_lost (ticks.end_at n) so.fate + ahead_of so.fate so.until (suc n) =
-      ahead_stays so.fate (ticks.end_at n) so.until n (λ lt none. no_some so.end (ticks.end_at n) none (so.own n (omega arith) lt)) (taken active undue) in
+      ahead_stays so.fate (ticks.end_at n) so.until n (λ lt none. not_both (ticks.end_at n) so.end none (so.own n (omega arith) lt)) (taken active undue) in
       record {
         until = so.until;
         end = so.end;

@@ -2,7 +2,7 @@
 
 ghost use Rattle.std.specs.Prelude.{◌≡◌, ◌<◌, ◌≤◌, true, false, IfOk, OnErr, length};
 ghost use Rattle.ptk_words.specs.declared.TheConstants.{LAST_TICK};
-ghost use Rattle.ptk_main_runs.specs.World.{at_tick, section_at};
+ghost use Rattle.ptk_main_runs.specs.World.{at_tick};
 ghost use Rattle.ptk_statistics_run.specs.Parts.{AgreesWith, AreBehindRows, AreEnded, AreFinished, AreKept, AreSeenBy, IsBefore};
 ghost use Rattle.ptk_statistics_run.specs.Stretches.{AreDecided, AreFiguresOf, AreFirst, AreGathered, IsRowOn, is_running_at};
 
@@ -10,7 +10,7 @@ use crate::due::{are_due_behind, is_running};
 use crate::part::{PartStatistics, Sight};
 use ptk_main_runs::System;
 use ptk_statistics_figures::Doing;
-use ptk_words::{Limits, PartId, Tick};
+use ptk_words::{PartId, Tick};
 use std::alloc::{AllocError, Global};
 
 /// The figures of each partition of a run.
@@ -193,17 +193,9 @@ fn first_parts(alloc: Global, system: &System<'_>) -> Result<Vec<PartStatistics>
     let mut parts = Vec::new(alloc);
     for i in 0..system.parts() {
         let p = PartId::new(i as u8);
-        let limits = limits_of(system, p);
+        let limits = system.limits(p);
         let part = PartStatistics::new(alloc, system, p, limits.threads, limits.mutexes)?;
         parts.push(part)?;
     }
     Ok(parts)
-}
-
-/// The numbers of a partition's section.
-fn limits_of(system: &System<'_>, p: PartId) -> Limits
-    requires { p < length system.now.config.sections }
-    ensures { result ≡ (section_at system.now.config p).limits }
-{
-    system.config().sections()[p.index()].limits()
 }

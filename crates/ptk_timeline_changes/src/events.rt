@@ -497,17 +497,11 @@ fn quoted(alloc: Global, text: &str) -> Result<String, PutFault>
 fn routine_at<'a>(symbols: &Symbols<'a>, start: Option<u32>) -> Option<&'a str>
     ensures { option_map (λ name. name.now) result ≡ routine_in symbols.now start }
 {
-    let Some(start) = start else {
-        return None;
-    };
-    match symbols.nearest(start) {
-        Some(located) => {
-            if located.distance == 0 {
-                return text_in(located.name);
-            }
-            None
-        }
-        None => None,
+    let located = symbols.nearest(start?)?;
+    if located.distance == 0 {
+        text_in(located.name)
+    } else {
+        None
     }
 }
 

@@ -29,7 +29,7 @@ impl Step {
         }
     }
 
-    /// The tick behind it; behind this one where there is no step.
+    /// The tick behind the step; the one behind this tick where there is no step.
     pub fn end_of(step: &Option<Step>, tick: u64, end: u64) -> u64
         requires step { IfSome step.now (λ step. (tick < step.until) × (step.until ≤ end)) }
         requires within { tick < end }
@@ -51,9 +51,8 @@ impl Step {
         self.until < due || due == end
     }
 
-    /// The last step of a partition that has made one since it had made this many, None where it has made none: it goes
-    /// on from this tick up to the next decision, within the window that ends at `end`; a step with which the partition
-    /// halts is shown for a tick.
+    /// The last step of a partition, None where it has made no more than this many: it goes on from this tick up to the
+    /// next decision, within the window that ends at `end`; a step with which the partition halts is shown for a tick.
     pub fn since(system: &System<'_>, p: PartId, steps: u64, tick: u64, end: u64) -> Option<Step>
         requires partition { p < length system.now.config.sections }
         requires within { tick < end }
@@ -69,7 +68,7 @@ impl Step {
         Some(Step { thread, until })
     }
 
-    /// The same, and None where the tick is the window's end.
+    /// As `since`, and None where the tick is the window's end.
     pub fn within(system: &System<'_>, p: PartId, steps: u64, tick: u64, end: u64) -> Option<Step>
         requires partition { p < length system.now.config.sections }
         requires within { tick ≤ end }

@@ -12,6 +12,7 @@ use Rattle.ptk_words.specs.declared.threads.Wait.{Wait}
 use Rattle.ptk_words_model.specs.State.{Part, State}
 use Rattle.ptk_words_model.specs.Priority.{effective_priority, thread_at}
 use Rattle.ptk_words_model.specs.Schedule.{is_running}
+use Rattle.ptk_words_model.proofs.Runners.{runner_is}
 use Rattle.ptk_words_sync_invariant.specs.Locks.{is_ready}
 use Rattle.ptk_words_invariant.specs.Well.{IsWell}
 use Rattle.ptk_timeline_changes.specs.Activity.{Activity}
@@ -40,10 +41,6 @@ runs_only active false true o e = absurd (let no : ⊥ = cc in no)
 runs_only false false false o e = absurd (let no : ⊥ = cc in no)
 runs_only true false false None e = absurd (let no : ⊥ = cc in no)
 runs_only true false false (Some wait) e = absurd (let no : ⊥ = cc in no)
-
-runner_is : (t : ℕ) (o : Option ℕ) → is_running t o ≡ true → o ≡ Some t
-runner_is t None e = absurd (false≢true e)
-runner_is t (Some r) e = ap Some (eqb-true r t e)
 
 runner_by : (t : ℕ) (active : Bool) (running : Option ℕ) (o : Option Thread) → activity_of_number active (is_running t running) o ≡ does.Running → running ≡ Some t
 runner_by t active running None e = absurd (let no : ⊥ = cc in no)

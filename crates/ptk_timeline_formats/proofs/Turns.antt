@@ -1,11 +1,12 @@
 -- What is written from one turn of the windows to the next.
-use Rattle.std.proofs.Common.{◌≡◌, ◌∙◌, ◌<◌, ◌≤◌, ◌+◌, ℕ, Bool, true, false, List, [], ◌++◌, Option, Some, None, ◌⊎◌, inl, inr, length, get_or, min, max, refl, sym, ap, ap₂, subst, arith, get_or-set_other, get_or-set_same}
-use Rattle.std.specs.Prelude.{MatchBool, MatchOption, nat_lt}
+use Rattle.std.proofs.Common.{◌≡◌, ◌∙◌, ◌<◌, ◌≤◌, ◌+◌, ℕ, true, false, List, [], ◌++◌, Option, Some, None, ◌⊎◌, inl, inr, length, get_or, min, max, refl, sym, ap, ap₂, subst, arith, get_or-set_other, get_or-set_same}
+use Rattle.std.specs.Prelude.{MatchOption, nat_lt}
 use Rattle.std.proofs.Math.ListN.{set}
 use Rattle.std.proofs.lemmas.Bool.{and_parts, cases_lt, ltb-true}
 use Rattle.std.proofs.lemmas.List.{get_or_read, length-set}
 use Rattle.std.specs.Io.KnownBytes.{Appends}
 use Rattle.std.proofs.KnownBytes.{Appends-trans}
+use Rattle.ptk_words.proofs.Options.{when_true, when_false}
 use Rattle.ptk_words_windows.specs.Windows.{IsFirstOwn, IsOwn, IsOwnUntil, WindowPlan}
 use Rattle.ptk_config.specs.Configuration.{Configuration}
 use Rattle.ptk_timeline_changes.specs.World.{World}
@@ -88,18 +89,10 @@ view_within p views world has =
     let both = and_parts (nat_lt p (length views)) (nat_lt p (length world.config.sections)) has in
     (ltb-true p (length views) both.0, ltb-true p (length world.config.sections) both.1)
 
-pick_true : (b : Bool) (P Q : Type 0) → b ≡ true → P → MatchBool b P Q
-pick_true true P Q is p = p
-pick_true false P Q is p = let no : ⊥ = cc in absurd no
-
-pick_false : (b : Bool) (P Q : Type 0) → b ≡ false → Q → MatchBool b P Q
-pick_false true P Q is q = let no : ⊥ = cc in absurd no
-pick_false false P Q is q = q
-
 -- a partition without a view: nothing is gone over
 pub none_over : (output : Output) (p from end : ℕ) (stand : Stand) (lines : List ℕ) → has_view p stand.board.views.items stand.world ≡ false → lines ≡ [] → IsGoneOver output p from end stand stand lines
 none_over output p from end stand lines has none =
-    pick_false (has_view p stand.board.views.items stand.world) (IsViewed output p from end stand stand lines) ((stand ≡ stand) × (lines ≡ [])) has (refl, none)
+    when_false (has_view p stand.board.views.items stand.world) (IsViewed output p from end stand stand lines) ((stand ≡ stand) × (lines ≡ [])) has (refl, none)
 
 -- a partition's view went over the window
 pub gone_over : (output : Output) (p from end : ℕ) (before after : Stand) (view behind : PartView) (lines : List ℕ) → has_view p before.board.views.items before.world ≡ true
@@ -107,7 +100,7 @@ pub gone_over : (output : Output) (p from end : ℕ) (before after : Stand) (vie
     → IsWindow output p from end before.world after.world before.at after.at view behind lines → IsGoneOver output p from end before after lines
 gone_over output p from end before after view behind lines has is written holder window =
     let within : p < length before.board.views.items = (view_within p before.board.views.items before.world has).0 in
-    pick_true (has_view p before.board.views.items before.world) (IsViewed output p from end before after lines) ((after ≡ before) × (lines ≡ [])) has (record {
+    when_true (has_view p before.board.views.items before.world) (IsViewed output p from end before after lines) ((after ≡ before) × (lines ≡ [])) has (record {
       view = view;
       behind = behind;
       was = λ default. sym (get_or_read before.board.views.items p view within is default);

@@ -3,7 +3,6 @@
 ghost use Rattle.std.specs.Prelude.{◌≡◌, ◌≢◌, ℕ, ◌+◌, ◌<◌, ◌≤◌, List, None, Some, IfOk, OnOk, length, slice_index_or, take};
 ghost use Rattle.std.specs.Io.KnownBytes.{Appends};
 ghost use Rattle.ptk_words.specs.declared.TheConstants.{LAST_TICK};
-ghost use Rattle.ptk_timeline_changes.specs.World.{section_at};
 ghost use Rattle.ptk_timeline_changes.specs.Dumps.{each_text};
 ghost use Rattle.ptk_timeline_formats.specs.declared.sheet.Form.TheVariants.{Vcd, Events};
 ghost use Rattle.ptk_timeline_formats.specs.declared.view.PartView.{PartView};
@@ -42,7 +41,8 @@ impl Board {
         let mut views = Vec::new(alloc);
         for i in 0..system.parts() {
             let p = PartId::new(i as u8);
-            views.push(PartView::new(alloc, system, p, threads_of(system, p))?)?;
+            let limits = system.limits(p);
+            views.push(PartView::new(alloc, system, p, limits.threads)?)?;
         }
         Ok(Board {
             views,
@@ -262,14 +262,6 @@ impl Board {
         let change = Change::WindowEnds(holder.since);
         sheet.put(holder.partition, tick, &change, out)
     }
-}
-
-/// How many threads the section of a partition allows.
-fn threads_of(system: &System<'_>, p: PartId) -> u32
-    requires { p < length system.now.config.sections }
-    ensures { result ≡ (section_at system.now.config p).limits.threads }
-{
-    system.config().sections()[p.index()].limits().threads
 }
 
 /// The first tick of the next window after a tick in none, the last tick where that is later.

@@ -20,13 +20,13 @@
 //!   window plan, up to the last tick, with none left out (`IsTurn`); in a window stretch after stretch, each a
 //!   decision, the plain steps behind it, and ticks at which nothing of the partition changes (`IsStretch`); and the
 //!   end (`run_end`).
-//! - Of each such dump: the ticks of its lines only grow, and at each of its ticks a reader, who has of each signal the
-//!   last value that is written at that tick or before, has what the state of the partition behind that tick says: its
-//!   window, its status, its running thread, and of each thread what it does, with its effective priority
-//!   (`dumps_are_true`: `IsTrueDump`, `AreOfTick`). Two signals have two identifiers (`signals_are_apart`). Two things
-//!   are said less closely. Which ticks a step takes up is not read from the states: of the step that is shown is said
-//!   whose it is, made at a tick between which and this one no thread does anything else. And of a partition that is
-//!   not halted, and of which no thread runs, it is left open whether it is shown as idle or as running.
+//! - Of each such dump: the ticks of its lines only grow. Take a tick of it, and of each signal the last value written
+//!   at that tick or before. These are what the partition's state behind that tick says: its window, its status, its
+//!   running thread, and of each thread what it does, with its effective priority (`dumps_are_true`: `IsTrueDump`,
+//!   `AreOfTick`). Two signals have two identifiers (`signals_are_apart`). Of a step that is shown it is said that its
+//!   thread made the partition's last step by some tick, and that each thread does the same at all ticks from there to
+//!   this one. Two things are left open: which ticks a step that is shown takes up; and of a partition that is not
+//!   halted and of which no thread runs, whether it is shown as idle or as running.
 //! - What trace events have of changes is the definition's too (`events` of `Sheet::put_each`: `changes_events`), and
 //!   so is which changes a view writes: of what is shown, all that is not as before (`events` of `PartView::show`,
 //!   `go_on` and `settle`: `part_events`), at a decision what is lost too (`decide`: `decision_events`), the names of

@@ -1,9 +1,9 @@
 -- The rows of a lane, one below the other.
-use Rattle.std.proofs.Common.{◌≡◌, ◌∙◌, ℕ, ◌+◌, ◌<◌, ◌≤◌, Bool, true, false, List, [], ◌∷◌, ◌++◌, Option, length, get_or, drop, refl, sym, ap, subst, append_assoc, append-nil}
-use Rattle.std.specs.Bool.{MatchBool}
+use Rattle.std.proofs.Common.{◌≡◌, ◌∙◌, ℕ, ◌+◌, ◌<◌, ◌≤◌, true, false, List, [], ◌∷◌, ◌++◌, Option, length, get_or, drop, refl, sym, ap, subst, append_assoc, append-nil}
 use Rattle.std.specs.Io.KnownBytes.{Appends}
 use Rattle.std.proofs.KnownBytes.{Appends-nil, Appends-trans}
 use Rattle.std.proofs.lemmas.List.{drop_all, drop_more}
+use Rattle.ptk_words.proofs.Options.{when_true, when_false}
 use Rattle.ptk_timeline_starts.specs.Marks.{Marks}
 use Rattle.ptk_timeline_starts.specs.LaneRow.{LaneRow}
 use Rattle.ptk_timeline_starts.specs.Scale.{Scale}
@@ -13,12 +13,6 @@ use Rattle.ptk_timeline_rows.specs.declared.layout.TheConstants.{ROW}
 use Rattle.ptk_timeline_rows.specs.Layout.{below, is_shown}
 use Rattle.ptk_timeline_rows.specs.Rows.{AreRows, IsRow, bar_text, mixed_text, name_text, raised_text, steps_text, thread_text}
 use Rattle.ptk_timeline_rows.specs.Stretches.{AreAlike, AreDrawn}
-
-true_is : {P : Type 0} (b : Bool) (Q : Type 0) → b ≡ true → P → MatchBool b P Q
-true_is {P = P} b Q is p = subst (λ (t : Bool). MatchBool t P Q) (sym is) p
-
-false_is : {Q : Type 0} (b : Bool) (P : Type 0) → b ≡ false → Q → MatchBool b P Q
-false_is {Q = Q} b P is q = subst (λ (t : Bool). MatchBool t P Q) (sym is) q
 
 module _ (scale : Scale) (name : List ℕ) (routine : ℕ → Option (List ℕ × ℕ)) (marks : List Marks) (top : ℕ) (rows : List LaneRow) where
   -- what is written so far, with the rows from a place on, are all rows
@@ -48,7 +42,7 @@ module _ (scale : Scale) (name : List ℕ) (routine : ℕ → Option (List ℕ �
         written = Appends-trans old now new are.so_far (first ++ named_text) are.written (Appends-trans now middle new first named_text line named);
         all = λ rest later.
             let one : AreRows scale name routine marks place y (row ∷ drop (place + 1) rows) (first ++ named_text ++ rest) =
-            true_is (is_shown row) (AreRows scale name routine marks (place + 1) y (drop (place + 1) rows) (first ++ named_text ++ rest)) shown
+            when_true (is_shown row) _ (AreRows scale name routine marks (place + 1) y (drop (place + 1) rows) (first ++ named_text ++ rest)) shown
             (first, rest, here, later, refl) in
             subst (AreRows scale name routine marks 0 top rows) (sym (append_assoc are.so_far (first ++ named_text) rest))
             (are.all (first ++ named_text ++ rest) (rows_at place y row (first ++ named_text ++ rest) lt at one));
@@ -60,9 +54,9 @@ module _ (scale : Scale) (name : List ℕ) (routine : ℕ → Option (List ℕ �
   no_more old now place y row lt at hidden are = record {
     so_far = are.so_far;
     written = are.written;
-    all = λ rest later. are.all rest (rows_at place y row rest lt at (false_is (is_shown row)
+    all = λ rest later. are.all rest (rows_at place y row rest lt at (when_false (is_shown row)
         ((first : List ℕ) × (more : List ℕ) × IsRow scale name (place + 1) y row.cells.items marks first
-        × AreRows scale name routine marks (place + 1) (below y ROW) (drop (place + 1) rows) more × (rest ≡ first ++ name_text (place + 1) y (routine (place + 1)) ++ more)) hidden later));
+        × AreRows scale name routine marks (place + 1) (below y ROW) (drop (place + 1) rows) more × (rest ≡ first ++ name_text (place + 1) y (routine (place + 1)) ++ more)) _ hidden later));
   }
 
   -- all rows are written

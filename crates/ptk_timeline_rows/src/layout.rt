@@ -19,7 +19,7 @@ pub const LEFT: u64 = 170;
 /// The room for the tick axis at the top.
 pub const TOP: u32 = 44;
 
-/// The height of a lane's head, in which its name and its marks stand.
+/// The height of a lane's head, in which its name and its marks are.
 pub const HEAD: u32 = 22;
 
 /// The height of a thread's row.
@@ -34,7 +34,7 @@ pub const GAP: u32 = 16;
 /// The room for the legend at the bottom.
 pub(crate) const LEGEND: u32 = 190;
 
-/// Where a lane stands: of the partition of a number, from the top this many pixels below the picture's, so high.
+/// Where a lane is: its partition's number, how many pixels are above it, and its height.
 #[derive(Clone, Copy)]
 pub struct Place {
     /// The partition's number, from 0 on.

@@ -3,7 +3,7 @@ use Rattle.std.proofs.Common.{◌≡◌, ◌≢◌, ℕ, zero, suc, ◌+◌, ◌
 use Rattle.std.proofs.Math.ListN.{set}
 use Rattle.std.proofs.Math.Nat.{mul-le-mul_right}
 use Rattle.std.proofs.lemmas.Bool.{cases_lt}
-use Rattle.ptk_words.proofs.Options.{zero_either_way, one_at_most}
+use Rattle.ptk_words.proofs.Options.{same_either_way, one_at_most}
 use Rattle.ptk_timeline_segments.specs.declared.look.Look.{Look}
 use Rattle.ptk_timeline_segments.specs.declared.look.TheConstants.{SHADES}
 use Rattle.ptk_timeline_segments.specs.declared.scale.Scale.{Scale}
@@ -33,7 +33,7 @@ pub count_held : (look : ℕ → Look) (held : Look) (place a n m : ℕ) → ((k
     → count_from look place a (n + m) ≡ count_from look place a n + (if place_in held == place then m else 0)
 count_held look held place a n zero holds =
     let same : n + 0 ≡ n = omega arith in
-    omega (arith, ap (count_from look place a) same, zero_either_way (place_in held == place))
+    omega (arith, ap (count_from look place a) same, same_either_way (place_in held == place) 0)
 count_held look held place a n (suc m) holds =
     let at : look (a + (n + m)) ≡ held = holds (a + (n + m)) (omega arith) (omega arith) in
     let before : count_from look place a (n + m) ≡ count_from look place a n + (if place_in held == place then m else 0) =

@@ -1,7 +1,6 @@
--- Loops over lists: each element in turn goes on; and slices that are written back.
-use Rattle.std.proofs.Common.{◌≡◌, ◌≢◌, ℕ, ◌+◌, ◌<◌, ◌≤◌, List, ◌++◌, length, take, drop, get_or, ◌⊎◌, inl, inr, sym, ap, subst, ◌∙◌, arith, get_or-set_same, get_or-set_other}
+-- Loops over lists: each element in turn goes on.
+use Rattle.std.proofs.Common.{◌≡◌, ◌≢◌, ℕ, ◌+◌, ◌<◌, ◌≤◌, List, length, get_or, ◌⊎◌, inl, inr, sym, subst, ◌∙◌, arith, get_or-set_same, get_or-set_other}
 use Rattle.std.proofs.Math.ListN.{set}
-use Rattle.std.proofs.Math.Seq.{take-append_seam}
 use Rattle.std.proofs.lemmas.Bool.{cases_lt}
 use Rattle.std.proofs.lemmas.List.{get_or_default}
 
@@ -32,7 +31,3 @@ on_more {A = A} R i first now item new within same are here on = record { before
     behind place default le =
         let other : place ≢ i = omega arith in
         get_or-set_other now i place new default other ∙ are.behind place default (omega (arith, le))
-
--- what a slice of a vector's items is once it is written back
-pub written : {A : Type 0} (new items : List A) (n : ℕ) → n ≡ length new → take n (new ++ drop (length new) items) ≡ new
-written new items n all = ap (λ (k : ℕ). take k (new ++ drop (length new) items)) all ∙ take-append_seam new (drop (length new) items)

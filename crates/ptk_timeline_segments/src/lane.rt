@@ -3,7 +3,7 @@
 ghost use Rattle.std.specs.Prelude.{◌≡◌, ℕ, ◌+◌, ◌<◌, ◌≤◌, IfOk, length, min, slice_index_or};
 ghost use Rattle.ptk_words.specs.declared.TheConstants.{LAST_TICK};
 ghost use Rattle.ptk_words_windows.specs.Windows.{own_ticks};
-ghost use Rattle.ptk_system.specs.World.{section_at, state_of};
+ghost use Rattle.ptk_system.specs.World.{state_of};
 ghost use Rattle.ptk_timeline_segments.specs.declared.row.LaneRow.{LaneRow as AnyRow};
 ghost use Rattle.ptk_timeline_segments.specs.Histories.{history, look_in};
 ghost use Rattle.ptk_timeline_segments.specs.Lanes.{GoesOn, IsDue, IsLaneOf, IsPassed, IsShown, StartsAs};
@@ -47,10 +47,10 @@ impl Lane {
     {
         system.states_are_alone();
         let due = due(system, p, scale);
-        let threads = threads_of(system, p);
+        let limits = system.limits(p);
         Ok(Lane {
             scale,
-            rows: first_rows(alloc, scale, system, p, threads, due)?,
+            rows: first_rows(alloc, scale, system, p, limits.threads, due)?,
             marked: Marked::new(alloc, scale, system, p)?,
             due,
             steps: system.steps(p),
@@ -152,14 +152,6 @@ fn due(system: &System<'_>, p: PartId, scale: Scale) -> u64
 {
     system.states_are_alone();
     system.stays_until(p, Tick::new(scale.to())).ticks()
-}
-
-/// How many thread numbers a partition has.
-fn threads_of(system: &System<'_>, p: PartId) -> u32
-    requires { p < length system.now.config.sections }
-    ensures { result ≡ (section_at system.now.config p).limits.threads }
-{
-    system.config().sections()[p.index()].limits().threads
 }
 
 /// The rows of a partition's threads, which begin as the system shows them, up to a tick.

@@ -11,9 +11,9 @@
 //! - A scale has the columns that its ticks need (`columns_of`), of as few ticks each as fit them into the number that
 //!   is asked for (`Scale::new`, `each`: `ticks_each`).
 //! - A step's ticks are its thread's, up to the next decision or its window's end.
-//! - A column of many ticks has the last look of the shade that held at most of them, the first of these at a draw, and
-//!   shows whether another held too (`IsCellOf`); over ticks that a picture passes by `System::compute_to` no look
-//!   changes (`IsPassed`).
+//! - A column of many ticks has the last look of the shade (running, ready, blocked, ..) that held longest in it, of
+//!   the first one at a draw, and shows whether another held too (`IsCellOf`); over ticks that a picture passes by
+//!   `System::compute_to` no look changes (`IsPassed`).
 //! - The marks of a column are those of its ticks together: it has each if and only if one of its ticks has it, by all
 //!   that the decisions of the picture make there (`tells`: `TellsMarks`, `marks_in`, `marks_at`): input is lost, the
 //!   partition halts, each tick that is lost, and, where a column is a tick, a step begins.

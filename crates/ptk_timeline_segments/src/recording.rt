@@ -23,7 +23,7 @@ pub struct Recording {
 }
 
 impl Recording {
-    /// Runs a system, which stands at no tick after the scale's first, on to the scale's end, and records what it shows
+    /// Runs a system, which is at no tick after the scale's first, on to the scale's end, and records what it shows
     /// from the scale's first tick on. The run is that of `run_to`. An error where memory ran out: the system has then
     /// gone on to the first tick, or to the end.
     pub fn of_run(

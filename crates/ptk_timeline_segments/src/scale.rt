@@ -5,7 +5,7 @@ ghost use Rattle.ptk_words.specs.declared.TheConstants.{LAST_TICK};
 
 use ptk_words::Tick;
 
-/// The ticks from one to a later one, in columns of as many ticks each; the last column may have fewer.
+/// The ticks from one to a later one, in columns of equally many ticks; the last column may have fewer.
 #[derive(Clone, Copy)]
 pub struct Scale {
     from: u64,
@@ -33,7 +33,7 @@ impl Scale {
         Scale { from, to, each }
     }
 
-    /// How many ticks a column stands for, where these ticks fill at most this many columns.
+    /// How many ticks a column has, where these ticks fill at most this many columns.
     fn ticks_each(ticks: u64, most: u64) -> u64
         ensures value { result ≡ ticks_each ticks most }
         ensures some { 0 < result }
@@ -57,7 +57,7 @@ impl Scale {
         self.to
     }
 
-    /// How many ticks a column stands for.
+    /// How many ticks a column has.
     pub fn each(self) -> u64
         ensures value { result ≡ self.each }
         ensures some { 0 < result }
@@ -65,7 +65,7 @@ impl Scale {
         self.each
     }
 
-    /// How many columns there are: as many as have ticks.
+    /// How many columns there are, each with a tick at least.
     pub fn columns(self) -> usize
         ensures count { result ≡ columns_of self }
         ensures all { start_of self result ≡ self.to }

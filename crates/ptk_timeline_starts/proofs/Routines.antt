@@ -4,6 +4,7 @@ use Rattle.std.specs.Prelude.{◌==◌, nat_le, find, if◌then◌else◌, optio
 use Rattle.std.proofs.lemmas.Bool.{eq-eqb, ne_eqb}
 use Rattle.std.proofs.lemmas.Bool.Decides.{nat_tests}
 use Rattle.ptk_symbols.specs.Tables.{exact, greater_of, last_below, nearest}
+use Rattle.ptk_symbols.proofs.Nearest.{last_is_below}
 
 -- the symbol, where it begins at the address
 abbrev at_only : ℕ → Option (ℕ × List ℕ) → Option (ℕ × List ℕ)
@@ -15,16 +16,6 @@ at_more : (a : ℕ) (s : ℕ × List ℕ) (best found : Option (ℕ × List ℕ)
     → (if s.0 == a then Some s else found) ≡ at_only a (if nat_le s.0 a then Some (greater_of s best) else best)
 at_more a s None found is below = grind (arith, nat_tests)
 at_more a s (Some t) found is below = grind (arith, nat_tests)
-
--- the last symbol below an address is not above it
-below_more : (a : ℕ) (s : ℕ × List ℕ) (best : Option (ℕ × List ℕ)) → IfSome best (λ (t : ℕ × List ℕ). t.0 ≤ a)
-    → IfSome (if nat_le s.0 a then Some (greater_of s best) else best) (λ (t : ℕ × List ℕ). t.0 ≤ a)
-below_more a s None below = grind (arith, nat_tests)
-below_more a s (Some t) below = grind (arith, nat_tests)
-
-last_is_below : (a : ℕ) (symbols : List (ℕ × List ℕ)) → IfSome (last_below a symbols) (λ (t : ℕ × List ℕ). t.0 ≤ a)
-last_is_below a [] = tt
-last_is_below a (s ∷ symbols) = below_more a s (last_below a symbols) (last_is_below a symbols)
 
 found_at : (a : ℕ) (symbols : List (ℕ × List ℕ)) → find (λ (s : ℕ × List ℕ). s.0 == a) symbols ≡ at_only a (last_below a symbols)
 found_at a [] = refl

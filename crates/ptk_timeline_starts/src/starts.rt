@@ -115,8 +115,8 @@ impl Starts {
         }
     }
 
-    /// Runs a system on to a tick of at most 2^40, and returns where its threads start on the way; those that it has
-    /// already start where they are. An error where memory ran out.
+    /// Runs a system on to a tick of at most 2^40, and returns where its threads start on the way; a thread that it
+    /// has already starts where it is. An error where memory ran out.
     pub fn of_run(alloc: Global, system: &mut System<'_>, to: Tick) -> Result<Starts, AllocError>
         requires { to ≤ LAST_TICK }
         ensures count { IfOk result (λ starts. length starts.parts.items ≡ length system.old.config.sections) }

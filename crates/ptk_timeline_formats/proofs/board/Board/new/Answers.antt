@@ -1,6 +1,7 @@
 use Rattle.std.proofs.Common.{◌≡◌, ◌∙◌, ℕ, [], ◌∷◌, ◌++◌, length, min, subst, sym, ap, arith, length-append}
 use Rattle.ptk_words.proofs.Lists.{each_more, AreEach}
 use Rattle.ptk_words.specs.declared.TheConstants.{THREAD_LIMIT}
+use Rattle.ptk_words.specs.declared.sections.Limits.{Limits}
 use Rattle.ptk_timeline_formats.specs.Runs.{IsFirstView}
 use Rattle.ptk_timeline_formats.proofs.board.Board.new.Goals as goal
 
@@ -12,7 +13,7 @@ loop-i-preserved c =
       kept = c.in_ok-new.ensures.kept;
       threads = c.in_ok-new.ensures.shown;
       since = c.in_ok-new.ensures.since;
-      count = c.in_ok-new.ensures.count ∙ ap (λ (threads : ℕ). min threads THREAD_LIMIT) c.threads_of.ensures;
+      count = c.in_ok-new.ensures.count ∙ ap (λ (limits : Limits). min limits.threads THREAD_LIMIT) c.limits-limits.ensures;
     } in (
       omega (arith, ap length pushed, length-append c.loop-i.views.items (c.in_ok-new.field-0 ∷ []), c.loop-i.invariant.0),
       subst (AreEach (IsFirstView c.args.system.now)) (sym pushed)
