@@ -1,7 +1,7 @@
 -- Which images a boot refuses.
 use Rattle.std.proofs.Common.{◌≡◌, ◌∙◌, ◌<◌, ℕ, Bool, true, false, List, Option, Some, None, Result, Ok, Err, length, get_or, position, refl, sym, ap, arith, rules, ◌+◌, inl, inr, is_some}
 use Rattle.std.specs.Prelude.{if◌then◌else◌, nat_lt}
-use Rattle.std.proofs.lemmas.Bool.{cases_order, lt-ltb}
+use Rattle.std.proofs.lemmas.Bool.{cases_order}
 use Rattle.std.proofs.lemmas.List.Sums.{position_or_len_is}
 use Rattle.ptk_words.specs.Image.{ImageParts, image_of}
 use Rattle.ptk_words.specs.declared.faults.ImageFault.{ImageFault}
@@ -9,6 +9,7 @@ use Rattle.ptk_words.specs.declared.faults.ImageFault.TheVariants.{Unfit}
 use Rattle.ptk_words.specs.declared.sections.Arrival.{Arrival}
 use Rattle.ptk_words.specs.declared.sections.Limits.{Limits}
 use Rattle.ptk_words.specs.declared.faults.Status.TheVariants.{Refused}
+use Rattle.ptk_words.proofs.Lists.{position-at}
 use Rattle.ptk_words_model.specs.Run.{empty_part, fits, main_thread, memory_of, start_part, with_image}
 use Rattle.ptk_words_model.specs.ThreadCreation.{with_new_thread}
 use Rattle.ptk_words_model.specs.State.{Part, State}
@@ -51,13 +52,6 @@ refusal_in-start w p alone e lt =
 
 not_below : (a : ℕ) → nat_lt a a ≡ false
 not_below a = search rules
-
--- a place that passes, after places that do not, is the first
-pub position-at : {X : Type 0} (p : X → Bool) (xs : List X) (i : ℕ) (d : X) → i < length xs → ((k : ℕ) → k < i → p (get_or xs k d) ≡ false)
-    → p (get_or xs i d) ≡ true → position p xs ≡ Some i
-position-at p xs i d within before here =
-    ap (λ (n : ℕ). if nat_lt n (length xs) then Some n else None) (position_or_len_is p xs i d (omega arith) before (λ _. here))
-    ∙ ap (λ (b : Bool). if b then Some i else None) (lt-ltb i (length xs) within)
 
 pub position-none : {X : Type 0} (p : X → Bool) (xs : List X) (n : ℕ) (d : X) → n ≡ length xs → ((k : ℕ) → k < n → p (get_or xs k d) ≡ false)
     → position p xs ≡ None

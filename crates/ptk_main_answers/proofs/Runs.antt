@@ -1,6 +1,6 @@
 -- Where a run ends.
-use Rattle.std.proofs.Common.{◌≡◌, ◌∙◌, ◌+◌, ◌*◌, ◌/◌, ◌<◌, ◌≤◌, ℕ, List, Option, false, inl, inr, refl, sym, ap, subst, arith, max, min, rules, Bool, true, Result, Ok, Err}
-use Rattle.std.specs.Prelude.{◌⊎◌, ◌↔◌, IfErr, IsErrAnd, IsTrue, length}
+use Rattle.std.proofs.Common.{◌≡◌, ◌∙◌, ◌+◌, ◌*◌, ◌/◌, ◌<◌, ◌≤◌, ℕ, List, Option, false, inl, inr, refl, sym, ap, subst, arith, max, min, rules, Bool, true}
+use Rattle.std.specs.Prelude.{◌⊎◌, ◌↔◌, IsTrue, length}
 use Rattle.std.proofs.Math.Nat.{div-mul-le_self, lt-div-mul-add}
 use Rattle.std.proofs.lemmas.Bool.{cases_lt, cases_order}
 use Rattle.ptk_config.specs.Configuration.{Configuration}
@@ -158,11 +158,6 @@ pub unlike_at : (question : RunQuestion) (config : Configuration) (files : List 
     → IsHostFault fault ⊎ ((n : ℕ) × IsFailed question (world_at config files n) old new fault)
 unlike_at question config files booted w old new boot run end fault (inl host) = inl host
 unlike_at question config files booted w old new boot run end fault (inr unlike) = inr (failed_at question config files booted w old new fault boot run end (inl unlike))
-
--- a fault that is passed on stays what it was
-pub passed_on : {T : Type 0} (P : Fault → Type 0) (r : Result T Fault) (e : Fault) → IsErrAnd r (λ f. f ≡ e) → P e → IfErr r P
-passed_on P (Ok a) e is h = absurd is
-passed_on P (Err f) e is h = subst P (sym is) h
 
 -- a run with no earlier end is at the last tick
 pub at_last : (question : RunQuestion) (config : Configuration) (files : List NamedFile) (booted w : World) → booted ≡ world_at config files 0 → w ≡ at_tick w.tick booted

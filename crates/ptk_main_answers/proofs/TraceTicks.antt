@@ -1,7 +1,7 @@
 -- In a run each step of a trace began before the tick that was reached. So its line is read as that step, since it has
 -- the numbers of a step.
-use Rattle.std.proofs.Common.{◌≡◌, ◌∙◌, ℕ, zero, suc, ◌+◌, ◌-◌, ◌<◌, ◌≤◌, Bool, true, false, List, [], ◌++◌, length, get_or, refl, sym, ap, subst, arith}
-use Rattle.std.specs.Prelude.{All, Option, Some, None, ◌&&◌, if◌then◌else◌, nat_le, nat_lt, option_to_list, unwrap_or}
+use Rattle.std.proofs.Common.{◌≡◌, ◌∙◌, ℕ, zero, suc, ◌+◌, ◌-◌, ◌<◌, ◌≤◌, List, [], ◌++◌, length, get_or, sym, ap, subst, arith}
+use Rattle.std.specs.Prelude.{All, Option, Some, None, nat_lt, option_to_list, unwrap_or}
 use Rattle.std.specs.Io.KnownBytes.{Appends}
 use Rattle.std.proofs.lemmas.Bool.{cond_both}
 use Rattle.std.proofs.lemmas.List.Elements.{All-append, All-cons, All-drop, All-nil, All-weaker}
@@ -15,10 +15,10 @@ use Rattle.ptk_words_model.specs.declared.Runner.{Runner}
 use Rattle.ptk_words_model.specs.declared.StepKind.{StepKind}
 use Rattle.ptk_words_model.specs.State.{Account, Part, State}
 use Rattle.ptk_words_model.specs.Priority.{thread_at}
-use Rattle.ptk_words_model.specs.Schedule.{after_interval, after_turn_end, is_round_robin, is_running, with_thread_used}
 use Rattle.ptk_words_model.specs.Decision.{Decision, after_step, after_whole_step, entry_of, ready_at, runner_of, step_cost, step_kind, turn}
 use Rattle.ptk_words_model.specs.Text.{trace_text}
 use Rattle.ptk_words_model.specs.Run.{accounted, after_tick_until, alone, decided, is_at, last_of}
+use Rattle.ptk_words_model.proofs.Runners.{interval_last}
 use Rattle.ptk_config.specs.Configuration.{Configuration}
 use Rattle.ptk_image.specs.NamedFiles.{NamedFile}
 use Rattle.ptk_main_runs.specs.KeptSteps.{IsStep}
@@ -35,16 +35,6 @@ IsBefore n e = e.tick < n
 
 later : (n : ℕ) (entries : List Entry) → All (IsBefore n) entries → All (IsBefore (suc n)) entries
 later n entries all = All-weaker (IsBefore n) (IsBefore (suc n)) (λ (e : Entry) (before : e.tick < n). omega (arith, before)) entries all
-
--- the round-robin interval has no part in the last step
-interval_last : (interval cost t : ℕ) (o : Option Thread) (s : Part) → (after_interval interval cost t o s).last ≡ s.last
-interval_last interval cost t None s = refl
-interval_last interval cost t (Some thread) s = by (is_running t s.running && is_round_robin thread.policy) (nat_le interval (thread.used + cost))
-  where
-    by : (turns ends : Bool) → (if turns then (if ends then after_turn_end t s else with_thread_used t (thread.used + cost) s) else s).last ≡ s.last
-    by true true = refl
-    by true false = refl
-    by false ends = refl
 
 -- ---- one tick
 

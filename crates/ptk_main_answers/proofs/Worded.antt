@@ -20,6 +20,7 @@ use Rattle.ptk_main_answers.specs.Worded.{behind_line, shown_line, worded_text, 
 use Rattle.ptk_main_answers.specs.declared.filter.Filter.{Filter}
 use Rattle.ptk_main_answers.proofs.TraceLines.{fields, fields_plain, is_plain, trace_fields}
 use Rattle.std.proofs.lemmas.Bool.{and_from, and_parts}
+use Rattle.std.proofs.lemmas.Option.{same_Some}
 
 -- ---- the first line of a trace
 
@@ -69,15 +70,12 @@ some_left e entries none =
 
 -- ---- what is written
 
-same_step : (entry e : Entry) → Some entry ≡ Some e → entry ≡ e
-same_step entry e read = cc
-
 -- what is written of a step that is not shown
 pub not_shown : (filter : Filter) (world : World) (p : ℕ) (symbols : List (ℕ × List ℕ)) (entry e : Entry) (shows : Bool) (bytes : Option (List ℕ)) → Some entry ≡ Some e → shows ≡ is_shown filter entry → shows ≡ false
     → (world ≡ behind_line filter world e) × Appends bytes bytes (shown_line filter world p symbols e)
 unfolding behind_line shown_line
 not_shown filter world p symbols entry e shows bytes read test off =
-    let is : is_shown filter e ≡ false = ap (is_shown filter) (sym (same_step entry e read)) ∙ (sym test ∙ off) in (
+    let is : is_shown filter e ≡ false = ap (is_shown filter) (sym (same_Some entry e read)) ∙ (sym test ∙ off) in (
       sym (ap (λ (b : Bool). if b then behind_words world e else world) is),
       subst (Appends bytes bytes) (sym (ap (λ (b : Bool). if b then words_behind (step_line e) (step_words world p symbols e) else []) is)) (Appends-nil bytes),
     )
@@ -88,7 +86,7 @@ pub line_shown : (filter : Filter) (world next : World) (p : ℕ) (symbols : Lis
     → Appends old new (words_behind line words) → (next ≡ behind_line filter world e) × Appends old new (shown_line filter world p symbols e)
 unfolding behind_line shown_line
 line_shown filter world next p symbols entry e shows line words text empty old new read test on lines goes all pushed none put =
-    let same : entry ≡ e = same_step entry e read in
+    let same : entry ≡ e = same_Some entry e read in
     let is : is_shown filter e ≡ true = ap (is_shown filter) (sym same) ∙ (sym test ∙ on) in
     let spelled : words ≡ step_words world p symbols e =
     all ∙ (pushed ∙ (ap (λ (bytes : List ℕ). bytes ++ step_words world p symbols entry) none ∙ ap (step_words world p symbols) same)) in (
@@ -105,10 +103,6 @@ pub record GoesOn (filter : Filter) (symbols : List (ℕ × List ℕ)) (p : ℕ)
   pub text : List ℕ
   pub put : Appends old new text
   pub all : text ++ worded_text filter world p symbols left ≡ whole
-
-pub none_put : (filter : Filter) (symbols : List (ℕ × List ℕ)) (p : ℕ) (world : World) (entries : List Entry) (rest : List ℕ) (old : Option (List ℕ)) → All IsTraced entries → rest ≡ trace_text entries
-    → GoesOn filter symbols p (worded_text filter world p symbols entries) old world rest old
-none_put filter symbols p world entries rest old traced lines = record { left = entries; traced = traced; lines = lines; text = []; put = Appends-nil old; all = refl }
 
 -- a line more
 line_put : (filter : Filter) (symbols : List (ℕ × List ℕ)) (p : ℕ) (whole : List ℕ) (old mid new : Option (List ℕ)) (world next : World) (rest line later : List ℕ) (left : List Entry) (text : List ℕ)

@@ -13,9 +13,9 @@ ghost use Rattle.ptk_main_answers.specs.Documents.{document_beginning, document_
 ghost use Rattle.ptk_main_answers.specs.Json.{members_events, value_events};
 
 use crate::naming::part_name;
-use crate::text::{json_text, put_bytes};
+use crate::text::json_text;
 use base64::engine::general_purpose::STANDARD;
-use ptk_main_faults::Fault;
+use ptk_main_faults::{Fault, put_bytes};
 use ptk_main_runs::{PartStatus, System, Value, cause_word, put_members};
 use ptk_words::PartId;
 use serde::{Described, Serialize, Serializer};

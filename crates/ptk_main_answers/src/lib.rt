@@ -4,7 +4,7 @@
 //! partition's trace with each step in words, its symbol, and the names of calls and replies (`decoded_trace_with`).
 //!
 //! - `run_answer` writes the report of the booted configuration after the ticks asked for, in the form asked for,
-//!   where it is asked for to no earlier end (`written`); it succeeds only where that is the expected report
+//!   where no earlier end is asked for (`written`); it succeeds only where that is the expected report
 //!   (`expected`) and no partition is of a kind to fail on (`passed`). On request it ends at the first multiple of
 //!   1,024 ticks at which every partition has halted, or at the last tick, and what it wrote is what is expected
 //!   (`ended`).

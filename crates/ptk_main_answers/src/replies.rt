@@ -32,10 +32,7 @@ pub(crate) fn reply_name(reply: u32) -> Option<&'static str>
     if reply == SUCCESS {
         return Some("0");
     }
-    match error_of(reply) {
-        Some(error) => Some(error_name(error)),
-        None => None,
-    }
+    Some(error_name(error_of(reply)?))
 }
 
 /// The error of a number, `None` where none has it.

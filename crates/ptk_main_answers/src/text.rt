@@ -1,7 +1,6 @@
-//! The text of a JSON object, and the bytes of an answer.
+//! The text of a JSON object.
 
-ghost use Rattle.std.specs.Prelude.{◌≡◌, [], IfErr, IfOk, OnOk, Some, string_bytes};
-ghost use Rattle.std.specs.Io.KnownBytes.{Appends};
+ghost use Rattle.std.specs.Prelude.{◌≡◌, [], IfErr, IfOk, Some, string_bytes};
 ghost use Rattle.json.specs.Lex.{tokens};
 ghost use Rattle.json.specs.Print.{print};
 ghost use Rattle.serde.specs.Event.{Log};
@@ -10,7 +9,6 @@ ghost use Rattle.serde_json.specs.Sent.{IsTextOf};
 use ptk_main_faults::Fault;
 use serde::Serialize;
 use std::alloc::Global;
-use std::io::Write;
 
 /// The JSON text of a value: the compact form of its tokens, with no newline. A fault where memory was refused.
 pub(crate) fn json_text<T: Serialize>(alloc: Global, value: &T) -> Result<String, Fault<'static>>
@@ -21,16 +19,5 @@ pub(crate) fn json_text<T: Serialize>(alloc: Global, value: &T) -> Result<String
     match serde_json::to_string(alloc, value) {
         Ok(text) => Ok(text),
         Err(_) => Err(Fault::NoMemory),
-    }
-}
-
-/// Writes bytes. A fault where the writer failed.
-pub(crate) fn put_bytes<W: Write>(bytes: &[u8], out: &mut W) -> Result<(), Fault<'static>>
-    ensures written { OnOk result (Appends (W.contents out.old) (W.contents out.new) bytes.now) }
-    ensures failed { IfErr result (λ fault. fault ≡ Fault.WriteFailed) }
-{
-    match out.write_all(bytes) {
-        Ok(()) => Ok(()),
-        Err(_) => Err(Fault::WriteFailed),
     }
 }

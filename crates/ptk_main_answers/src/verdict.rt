@@ -12,8 +12,8 @@ ghost use Rattle.ptk_main_faults.specs.Lines.{line_of};
 ghost use Rattle.ptk_main_answers.specs.Documents.{answer_members, check_data, check_text};
 ghost use Rattle.ptk_main_answers.specs.Json.{members_events, value_events};
 
-use crate::text::{json_text, put_bytes};
-use ptk_main_faults::Fault;
+use crate::text::json_text;
+use ptk_main_faults::{Fault, put_bytes};
 use ptk_main_runs::{Value, put_members};
 use serde::{Described, Serialize, Serializer};
 use std::alloc::{AllocError, Global};

@@ -12,5 +12,6 @@ pub use Rattle.ptk_system.specs.declared.status.PartStatus
 pub use Rattle.ptk_system.specs.Told
 pub use Rattle.ptk_system.specs.Shown
 pub use Rattle.ptk_system.specs.declared.fault.BootFault
+pub use Rattle.ptk_system.specs.FaultWords
 pub use Rattle.ptk_system.specs.ByThread
 pub use Rattle.ptk_system.specs.KeptSteps

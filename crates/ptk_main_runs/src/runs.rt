@@ -58,8 +58,9 @@ pub fn run_with<W: Write>(
     }
 }
 
-/// The same, with the trace of the partition of this name in place of the report. That there is such a partition is
-/// tested before the system is booted; where there is none the writer is as it was.
+/// Boots the system of a configuration, runs it for this many ticks, at most 2^40, and writes the trace of the
+/// partition of this name. `NoPartition` if and only if no section has the name, which is tested before the boot; other
+/// faults as of `run_with`. On a fault the writer is as it was, unless it failed.
 pub fn trace_with<W: Write>(
     alloc: Global,
     config: &Config,

@@ -1,7 +1,8 @@
 -- The status of an outcome, and that of a command by what came of its text.
 use Rattle.std.proofs.Common.{◌≡◌, ◌≢◌, ℕ, Bool, List, Result, Ok, Err, sym, subst, ap, refl, inl, inr}
-use Rattle.std.specs.Prelude.{IfErr, IsErr, IsOk, IsSome, IsSomeAnd, OnOk, Option, Some, None}
+use Rattle.std.specs.Prelude.{IfErr, IsErr, IsOk, OnOk, Option}
 use Rattle.ptk_words.specs.Image.{ImageParts}
+use Rattle.ptk_words.proofs.Options.{some_of}
 use Rattle.ptk_asm_language.specs.Source as definition
 use Rattle.ptk_main_line.specs.declared.requests.AsmOptions.{AsmOptions}
 use Rattle.ptk_main_line.specs.declared.requests.DisasmOptions.{DisasmOptions}
@@ -107,12 +108,7 @@ disasm_read reads writes options before after old new status (inl done) = inl (d
 disasm_read reads writes options before after old new status (inr failed) =
     inr (failed.0, (disasm_refused reads options failed.0 failed.1.0, λ other. (failed.1.1 other).1), failed.2)
 
--- a value of which something holds is there
-target_there : {A : Type 0} (P : A → Type 0) (target : Option A) → IsSomeAnd target P → IsSome target
-target_there P None there = absurd there
-target_there P (Some name) there = refl
-
 pub disasm_end : {F : Type 0} (finds : List ℕ → List ℕ → Bool → Type 0) (reads : List ℕ → Option (List ℕ) → Type 0) (writes : F → List ℕ → List ℕ → F → Type 0) (options : DisasmOptions) (before after : F) (old new : Option (List ℕ)) (status : ℕ)
     → (IsOverInput options → IsUsageStatus status) → IsDisasmOver finds reads writes options before after old new status → IsDisasmEnd options old new status
-disasm_end finds reads writes options before after old new status over (inl one) = (over, inl (target_there _ options.target one.0, one.1, one.3))
+disasm_end finds reads writes options before after old new status over (inl one) = (over, inl (some_of options.target _ one.0, one.1, one.3))
 disasm_end finds reads writes options before after old new status over (inr apart) = (over, inr (disasm_read reads writes options before after old new status apart.1))

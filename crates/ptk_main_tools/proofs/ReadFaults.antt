@@ -1,6 +1,6 @@
 -- The faults of files, texts and images.
-use Rattle.std.proofs.Common.{◌≡◌, ◌≢◌, ◌<◌, ℕ, true, false, List, [], length, get_or, Option, None, Some, Result, Ok, Err, refl, sym, ap, subst, inl, inr}
-use Rattle.std.specs.Prelude.{Any, IfErr, IfOk, IsErrAnd, IsOk, IsUtf8}
+use Rattle.std.proofs.Common.{◌≡◌, ◌≢◌, ◌<◌, ℕ, true, false, List, [], length, get_or, Option, None, Some, Result, Ok, Err, refl, sym, ap, inl, inr}
+use Rattle.std.specs.Prelude.{Any, IfErr, IfOk, IsOk, IsUtf8}
 use Rattle.std.specs.Borrow.{Bor}
 use Rattle.std.specs.declared.io.ErrorKind.{ErrorKind}
 use Rattle.std.specs.declared.io.ErrorKind.TheVariants as kind
@@ -13,11 +13,6 @@ use Rattle.ptk_main_faults.specs.Told.{told}
 use Rattle.ptk_main_faults.specs.declared.fault.Fault.{Fault}
 use Rattle.ptk_main_faults.specs.declared.fault.Fault.TheVariants.{NotText}
 use Rattle.ptk_main_tools.specs.Reading.{IsConfigFault, IsConfigFileFault, IsImageFault, IsNamedText, IsNamedTextFault, IsReadFault, IsStated, IsStatedIn, IsTextFault, IsUnreadFault, IsUnreadNamed, IsUnreadText, IsUnstatedIn, read_fault}
-
--- a fault that is passed on stays what it was
-pub passed_on : {T : Type 0} (P : Fault → Type 0) (outcome : Result T Fault) (fault : Fault) → IsErrAnd outcome (λ f. f ≡ fault) → P fault → IfErr outcome P
-passed_on P (Ok x) fault is holds = absurd is
-passed_on P (Err f) fault is holds = subst P (sym is) holds
 
 -- the host's error is one of reading
 pub read_fault_is : (name : Bor (List ℕ)) (error : ErrorKind) → IsReadFault name (read_fault name error)

@@ -31,7 +31,7 @@ const MOST_SHOWN: usize = 32;
 
 /// Writes the image of a source into a file, and on request its labels into another, and gives the number of the
 /// status. Nothing is written where the source is refused, or two of the files are one. The labels are written first:
-/// where the image can't be written then, the labels stand.
+/// where the image can't be written then, the labels stay.
 pub fn asm(rt: &HostRuntime, options: AsmOptions<'_>) -> u8
     ensures { IsAsmEnd options.entry result }
 {

@@ -1,7 +1,6 @@
 //! `disasm`: the assembler text of an image.
 
 ghost use Rattle.std.specs.Prelude.{◌≡◌, ◌≢◌, true, false, Ok, IfOk, IfErr, IsTrue, OnOk, string_bytes};
-ghost use Rattle.std.specs.Io.KnownBytes.{Appends};
 ghost use Rattle.ptk_words.specs.Image.{ImageParts, image_of};
 ghost use Rattle.ptk_asm_language.specs.Source.{source};
 ghost use Rattle.ptk_main_tools.specs.Ends.{IsDisasmEnd, IsDisasmOver};
@@ -14,7 +13,7 @@ use crate::reading::{symbols_of, symbols_text_by};
 use crate::telling::{end, tell, usage};
 use ptk_disasm::{DisasmFault, disassemble_with};
 use ptk_image::read_image;
-use ptk_main_faults::Fault;
+use ptk_main_faults::{Fault, put_bytes};
 use ptk_main_line::{DisasmOptions, over_input};
 use ptk_symbols::Symbols;
 use std::alloc::Global;
@@ -148,18 +147,7 @@ fn put_text<F: FileWriter, W: Write>(
 {
     match target {
         Some(name) => files.write_file(name, text),
-        None => put_shown(text, out),
-    }
-}
-
-// Writes bytes to `out`.
-fn put_shown<W: Write>(bytes: &[u8], out: &mut W) -> Result<(), Fault<'static>>
-    ensures shown { OnOk result (Appends (W.contents out.old) (W.contents out.new) bytes.now) }
-    ensures failed { IfErr result (λ fault. fault ≡ Fault.WriteFailed) }
-{
-    match out.write_all(bytes) {
-        Ok(()) => Ok(()),
-        Err(_) => Err(Fault::WriteFailed),
+        None => put_bytes(text, out),
     }
 }
 

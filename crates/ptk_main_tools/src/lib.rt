@@ -29,9 +29,10 @@
 //!   request for help to standard output, goes there is neither proved nor tested.
 //!
 //! Below are the command line (`ptk_main_line`), the lines of faults (`ptk_main_faults`), the configuration
-//! (`ptk_config`), the assembler (`ptk_asm`), the way back (`ptk_disasm`) and tables of symbols (`ptk_symbols`); above
-//! are `ptk_main_files`, with the requests over a configuration, and of the tests `ptk_main_stored`. It is apart from
-//! the first so that it is proved beside the kernel, and not after the answers. No clause is costly to prove.
+//! (`ptk_config`), the assembler (`ptk_asm`), the disassembler (`ptk_disasm`) and tables of symbols (`ptk_symbols`);
+//! above are `ptk_main_files`, with the requests over a configuration, and of the tests `ptk_main_stored`. It is apart
+//! from `ptk_main_files` so that it is proved beside the kernel, and not after the answers. No clause is costly to
+//! prove.
 
 mod assembling;
 mod disassembling;

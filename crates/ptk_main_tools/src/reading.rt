@@ -48,10 +48,8 @@ pub(crate) fn text_by<'a, R: FileReader>(reader: &R, name: &'a str) -> Result<St
     ensures read { IfOk result (λ text. R.reads reader.now name.now (Some (string_bytes text))) }
     ensures unread { IfErr result (IsUnreadText (R.reads reader.now) name.entry) }
 {
-    match reader.read_file(name) {
-        Ok(bytes) => text_from(name, bytes),
-        Err(fault) => Err(fault),
-    }
+    let bytes = reader.read_file(name)?;
+    text_from(name, bytes)
 }
 
 // The text that the bytes of the file of this name are. A fault where they are none.
@@ -202,10 +200,9 @@ fn add_image<'a, R: FileReader>(
     ensures others { (other : List ℕ) → name.now ≢ other → content_of files.new other ≡ content_of files.old other }
     ensures unread { IfErr result (IsUnreadFault name.entry) }
 {
-    match image_bytes(reader, alloc, name, root) {
-        Ok(Some(bytes)) => Ok(files.add(name, &bytes)?),
-        Ok(None) => Ok(()),
-        Err(fault) => Err(fault),
+    match image_bytes(reader, alloc, name, root)? {
+        Some(bytes) => Ok(files.add(name, &bytes)?),
+        None => Ok(()),
     }
 }
 

@@ -1,8 +1,9 @@
 use Rattle.std.proofs.Common.{inr, subst}
+use Rattle.ptk_words.proofs.Options.{passed_on}
 use Rattle.ptk_main_runs.specs.World.{World}
 use Rattle.ptk_main_answers.specs.Expectations.{IsNoFailure}
 use Rattle.ptk_main_answers.proofs.Refusals.{none_missing}
-use Rattle.ptk_main_answers.proofs.Runs.{at_last, failed_on_at, passed_at, passed_on, unlike_at, watched_at}
+use Rattle.ptk_main_answers.proofs.Runs.{at_last, failed_on_at, passed_at, unlike_at, watched_at}
 use Rattle.ptk_main_answers.proofs.run.run_answer.Goals as goal
 
 pub returns-clause-passed : goal.returns-clause-passed

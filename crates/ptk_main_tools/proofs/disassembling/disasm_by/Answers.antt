@@ -1,9 +1,9 @@
 use Rattle.std.proofs.Common.{ℕ, List, Some, sym, subst, inl, inr}
 use Rattle.std.proofs.lemmas.Result.{IfErr-weaker, on_ok_weaker}
+use Rattle.ptk_words.proofs.Options.{passed_on}
 use Rattle.ptk_main_tools.specs.Reading.{IsNamedText}
 use Rattle.ptk_main_tools.specs.Refusals.{IsDisasmRefusal}
 use Rattle.ptk_main_tools.specs.Written.{WritesSource}
-use Rattle.ptk_main_tools.proofs.ReadFaults.{passed_on}
 use Rattle.ptk_main_tools.proofs.disassembling.disasm_by.Goals as goal
 
 pub returns-clause-done : goal.returns-clause-done

@@ -1,7 +1,7 @@
 use Rattle.std.proofs.Common.{ℕ, List, Some, sym, subst, inl, inr}
 use Rattle.std.proofs.lemmas.Result.{IfErr-weaker, IfOk-weaker}
+use Rattle.ptk_words.proofs.Options.{passed_on}
 use Rattle.ptk_main_tools.specs.Reading.{IsUnstatedIn}
-use Rattle.ptk_main_tools.proofs.ReadFaults.{passed_on}
 use Rattle.ptk_main_tools.proofs.reading.config_by.Goals as goal
 
 pub returns-clause-stated : goal.returns-clause-stated
