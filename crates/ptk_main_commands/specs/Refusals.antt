@@ -1,5 +1,5 @@
 -- Why the requests of this crate are refused.
-use Rattle.std.specs.Prelude.{◌≡◌, ◌≢◌, ◌⊎◌, ℕ, List, [], ◌∷◌, Option, unwrap_or}
+use Rattle.std.specs.Prelude.{◌≡◌, ◌≢◌, ℕ, List, [], ◌∷◌, Option, unwrap_or}
 use Rattle.std.specs.Borrow.{Bor}
 use Rattle.std.specs.Option.{option_map_or}
 use Rattle.clap.specs.Words.{IsAmong, Text, fault_of}
@@ -9,8 +9,7 @@ use Rattle.ptk_main_line.specs.CommandLine.{ptk}
 use Rattle.ptk_main_line.specs.declared.requests.TimelineOptions.{TimelineOptions}
 use Rattle.ptk_main_faults.specs.declared.fault.Fault.{Fault}
 use Rattle.ptk_main_files.specs.NamedFiles.{NamedFile}
-use Rattle.ptk_main_files.specs.Outcomes.{IsRefused, partition_refusal}
-use Rattle.ptk_main_files.specs.Reading.{IsSymbolsFileFault}
+use Rattle.ptk_main_files.specs.Outcomes.{partition_refusal}
 use Rattle.ptk_main_files.specs.Refusals.{missing_image, refused_picture}
 
 -- clap takes the words neither for a command nor for a request for help (own)
@@ -28,7 +27,3 @@ stats_refusal name config files = option_map_or (λ (word : Bor (List ℕ)). par
 -- the run of a picture ends before there is a tick to show; else the first missing image (own)
 abbrev pub picture_refusal : TimelineOptions → Configuration → List NamedFile → Option Fault
 picture_refusal options config files = refused_picture config files (unwrap_or options.from 0) options.run.ticks
-
--- the symbols are not read; or it is the refusal of this request (own)
-abbrev pub IsNamedRefusal : Option (Bor (List ℕ)) → Configuration → (List NamedFile → Option Fault) → Fault → Type 0
-IsNamedRefusal symbols config refusal fault = IsSymbolsFileFault symbols fault ⊎ IsRefused config.sections refusal refusal fault

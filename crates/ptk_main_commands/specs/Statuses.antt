@@ -10,11 +10,11 @@ use Rattle.ptk_main_line.specs.declared.requests.StatsOptions.{StatsOptions}
 use Rattle.ptk_main_line.specs.declared.requests.TimelineOptions.{TimelineOptions}
 use Rattle.ptk_main_faults.specs.Statuses.{status_number}
 use Rattle.ptk_main_faults.specs.declared.status.ExitStatus.TheVariants.{Done, HostFailure, Usage}
-use Rattle.ptk_main_files.specs.Outcomes.{IsRefused, IsSilent, WithImages, partition_refusal}
+use Rattle.ptk_main_files.specs.Outcomes.{IsNamedRefusal, IsRefused, IsSilent, WithImages, partition_refusal}
 use Rattle.ptk_main_files.specs.Statuses.{IsAsmEnd, IsCheckEnd, IsConfigStatus, IsDisasmEnd, IsEndStatus, IsImpactEnd, IsRunEnd, IsTraceAnswer}
 use Rattle.ptk_main_files.specs.Usage.{IsUsageStatus}
 use Rattle.ptk_main_commands.specs.Answered.{IsExplanationOf, IsStatsOf, IsTimelineOf}
-use Rattle.ptk_main_commands.specs.Refusals.{AreHelp, AreWrong, IsNamedRefusal, picture_refusal, stats_refusal}
+use Rattle.ptk_main_commands.specs.Refusals.{AreHelp, AreWrong, picture_refusal, stats_refusal}
 
 -- ---- the commands of this crate
 
@@ -22,19 +22,19 @@ use Rattle.ptk_main_commands.specs.Refusals.{AreHelp, AreWrong, IsNamedRefusal, 
 abbrev pub IsStatsStatus : StatsOptions → Option (List ℕ) → Option (List ℕ) → Configuration → ℕ → Type 0
 IsStatsStatus options old new config status =
     let refusal = stats_refusal options.partition config in
-    IsEndStatus (WithImages config.sections (IsStatsOf options config old new)) (λ fault. IsRefused config.sections refusal refusal fault × IsSilent fault old new) status
+    IsEndStatus (WithImages config.sections (IsStatsOf options config old new)) (λ fault. IsRefused (WithImages config.sections) config.sections refusal refusal fault × IsSilent fault old new) status
 
 -- timeline, of a configuration: done only where the picture that is asked for is written; a refusal writes nothing (own)
 abbrev pub IsTimelineStatus : TimelineOptions → Option (List ℕ) → Option (List ℕ) → Configuration → ℕ → Type 0
 IsTimelineStatus options old new config status =
     IsEndStatus (WithImages config.sections (IsTimelineOf options config old new))
-    (λ fault. IsNamedRefusal options.symbols config (picture_refusal options config) fault × IsSilent fault old new) status
+    (λ fault. IsNamedRefusal (WithImages config.sections) config.sections options.symbols (picture_refusal options config) fault × IsSilent fault old new) status
 
 -- explain, of a configuration: done only where it is written how the partition stands; a refusal writes nothing (own)
 abbrev pub IsExplainStatus : ExplainOptions → Option (List ℕ) → Option (List ℕ) → Configuration → ℕ → Type 0
 IsExplainStatus options old new config status =
     IsEndStatus (WithImages config.sections (IsExplanationOf options config old new))
-    (λ fault. IsNamedRefusal options.symbols config (partition_refusal options.partition.now config) fault × IsSilent fault old new) status
+    (λ fault. IsNamedRefusal (WithImages config.sections) config.sections options.symbols (partition_refusal options.partition.now config) fault × IsSilent fault old new) status
 
 -- `stats`; where no configuration is read nothing is written (own)
 abbrev pub IsStatsEnd : StatsOptions → Option (List ℕ) → Option (List ℕ) → ℕ → Type 0

@@ -47,7 +47,7 @@ fn stats_config<'a, R: FileReader, W: Write>(
 ) -> Result<(), Fault<'a>>
     requires { options.run.ticks ≤ LAST_TICK }
     ensures accepted { OnOk result (WithImagesRead (R.reads reader.now) options.entry.run.root config.now.sections (IsStatsOf options.entry config.now (W.contents out.old) (W.contents out.new))) }
-    ensures refused { IfErr result (IsRefused config.now.sections (stats_refusal options.entry.partition config.now) (stats_refusal options.entry.partition config.now)) }
+    ensures refused { IfErr result (IsRefused (WithImagesRead (R.reads reader.now) options.entry.run.root config.now.sections) config.now.sections (stats_refusal options.entry.partition config.now) (stats_refusal options.entry.partition config.now)) }
     ensures silent { IfErr result (λ fault. ¬ IsHostFault fault → out.new ≡ out.old) }
 {
     let files = images_by(reader, rt.alloc(), config, options.run.root)?;

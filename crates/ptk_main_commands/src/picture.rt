@@ -9,11 +9,11 @@ ghost use Rattle.ptk_timeline_formats.specs.declared.fault.FormatFault.TheVarian
 ghost use Rattle.ptk_timeline_formats.specs.Faults.{missing_in_format};
 ghost use Rattle.ptk_timeline_formats.specs.Runs.{PutsDump, PutsEvents};
 ghost use Rattle.ptk_main_faults.specs.HostFaults.{IsHostFault};
-ghost use Rattle.ptk_main_files.specs.Outcomes.{WithImagesRead};
+ghost use Rattle.ptk_main_files.specs.Outcomes.{IsNamedRefusal, WithImagesRead};
 ghost use Rattle.ptk_main_files.specs.Refusals.{IsFaultOf, refused_picture};
 ghost use Rattle.ptk_main_files.specs.World.{world_at};
 ghost use Rattle.ptk_main_commands.specs.Answered.{AreRoutines, IsTimelineOf, PutsPicture};
-ghost use Rattle.ptk_main_commands.specs.Refusals.{IsNamedRefusal, picture_refusal};
+ghost use Rattle.ptk_main_commands.specs.Refusals.{picture_refusal};
 ghost use Rattle.ptk_main_commands.specs.Statuses.{IsTimelineEnd};
 
 use ptk_config::Config;
@@ -54,7 +54,7 @@ fn timeline_config<'a, R: FileReader, W: Write>(
 ) -> Result<(), Fault<'a>>
     requires { options.run.ticks ≤ LAST_TICK }
     ensures accepted { OnOk result (WithImagesRead (R.reads reader.now) options.entry.run.root config.now.sections (IsTimelineOf options.entry config.now (W.contents out.old) (W.contents out.new))) }
-    ensures refused { IfErr result (IsNamedRefusal options.entry.symbols config.now (picture_refusal options.entry config.now)) }
+    ensures refused { IfErr result (IsNamedRefusal (WithImagesRead (R.reads reader.now) options.entry.run.root config.now.sections) config.now.sections options.entry.symbols (picture_refusal options.entry config.now)) }
     ensures silent { IfErr result (λ fault. ¬ IsHostFault fault → out.new ≡ out.old) }
 {
     let files = images_by(reader, rt.alloc(), config, options.run.root)?;

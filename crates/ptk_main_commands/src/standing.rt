@@ -3,11 +3,10 @@
 ghost use Rattle.std.specs.Prelude.{◌≡◌, ◌≤◌, None, IfErr, MatchResult, OnOk};
 ghost use Rattle.ptk_words.specs.declared.TheConstants.{LAST_TICK};
 ghost use Rattle.ptk_main_faults.specs.HostFaults.{IsHostFault};
-ghost use Rattle.ptk_main_files.specs.Outcomes.{WithImagesRead, partition_refusal};
+ghost use Rattle.ptk_main_files.specs.Outcomes.{IsNamedRefusal, WithImagesRead, partition_refusal};
 ghost use Rattle.ptk_main_files.specs.Parts.{part_named};
 ghost use Rattle.ptk_main_files.specs.Refusals.{IsFaultOf, refused_trace};
 ghost use Rattle.ptk_main_commands.specs.Answered.{IsExplanationOf, PutsStanding, standing_in};
-ghost use Rattle.ptk_main_commands.specs.Refusals.{IsNamedRefusal};
 ghost use Rattle.ptk_main_commands.specs.Statuses.{IsExplainEnd};
 
 use ptk_config::Config;
@@ -47,7 +46,7 @@ fn explain_config<'a, R: FileReader, W: Write>(
 ) -> Result<(), Fault<'a>>
     requires { options.run.ticks ≤ LAST_TICK }
     ensures accepted { OnOk result (WithImagesRead (R.reads reader.now) options.entry.run.root config.now.sections (IsExplanationOf options.entry config.now (W.contents out.old) (W.contents out.new))) }
-    ensures refused { IfErr result (IsNamedRefusal options.entry.symbols config.now (partition_refusal options.entry.partition.now config.now)) }
+    ensures refused { IfErr result (IsNamedRefusal (WithImagesRead (R.reads reader.now) options.entry.run.root config.now.sections) config.now.sections options.entry.symbols (partition_refusal options.entry.partition.now config.now)) }
     ensures silent { IfErr result (λ fault. ¬ IsHostFault fault → out.new ≡ out.old) }
 {
     let files = images_by(reader, rt.alloc(), config, options.run.root)?;

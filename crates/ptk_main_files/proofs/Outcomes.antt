@@ -1,5 +1,6 @@
 -- What follows of an outcome with the images that were read.
 pub use Rattle.ptk_main_tools.proofs.Ends.{ended}
+pub use Rattle.ptk_words.proofs.Options.{passed_on}
 use Rattle.std.proofs.Common.{◌≡◌, ◌≢◌, ◌∙◌, ℕ, List, [], Option, None, Result, Ok, Err, ◌⊎◌, sym, ap, refl, subst, inl, inr}
 use Rattle.std.specs.Prelude.{◌↔◌, Bool, true, IfErr, IfOk, IsOkAnd, IsSomeAnd, MatchResult, OnOk, Some, is_some}
 use Rattle.std.specs.Borrow.{Bor}
@@ -37,16 +38,9 @@ use Rattle.ptk_impact_answers.specs.Renaming.{renames_of}
 use Rattle.ptk_impact_answers.specs.SameRuns.{AreSameRuns}
 use Rattle.ptk_impact_answers.specs.declared.release.Release.{Release}
 use Rattle.ptk_impact_answers.specs.Tally.{Tally}
-use Rattle.ptk_main_files.specs.Outcomes.{AreRead, AreReadApart, IsCheckRefusal, IsComparison, IsCountFault, IsImpactFault, IsMissingFault, IsRefused, IsReleaseOf, IsRunFault, IsRunFaultWith, IsRunOf, IsSilent, IsSoundWith, IsTraceFault, IsTraceOf, IsUnexpected, IsUnsaid, PutsComparison, PutsDecoded, PutsExplained, PutsRefusal, PutsSound, PutsTrace, WithImages, WithImagesRead, WithReleases, WithReleasesRead, check_refusal, partition_refusal, question_of, run_question}
+use Rattle.ptk_main_files.specs.Outcomes.{AreRead, AreReadApart, IsCheckFault, IsCheckRefusal, IsComparison, IsCountFault, IsFormFault, IsImpactFault, IsMissingFault, IsNamedRefusal, IsNoExplanation, IsRefused, IsReleaseOf, IsRunFault, IsRunFaultWith, IsRunOf, IsSilent, IsSoundWith, IsTraceFault, IsTraceOf, IsUnexpected, IsUnsaid, PutsComparison, PutsDecoded, PutsExplained, PutsObject, PutsRefusal, PutsSound, PutsTrace, WithImages, WithImagesRead, WithReleases, WithReleasesRead, check_refusal, partition_refusal, question_of, run_question}
 use Rattle.ptk_main_files.specs.Statuses.{IsCheckStatus, IsConfigRead, IsConfigStatus, IsEndStatus, IsImpactEnd, IsImpactOver, IsImpactRead, IsImpactStatus, IsTraceStatus}
 use Rattle.ptk_main_files.specs.Traces.{as_traced, filter_for}
-
--- ---- the outcome of a request
-
--- what holds anyway
-pub on_any : (P : Type 0) (outcome : Result (Unit {0}) Fault) → P → OnOk outcome P
-on_any P (Ok u) holds = holds
-on_any P (Err fault) holds = tt
 
 -- ---- with the images that were read
 
@@ -56,11 +50,46 @@ pub images_alone : (reads : List ℕ → Option (List ℕ) → Type 0) (root : O
 images_alone reads root sections P (Ok u) read = (read.0, read.1, read.2.1)
 images_alone reads root sections P (Err fault) read = tt
 
+with_alone : (reads : List ℕ → Option (List ℕ) → Type 0) (root : Option (Bor (List ℕ))) (sections : List Section) (P : List NamedFile → Type 0) → WithImagesRead reads root sections P → WithImages sections P
+with_alone reads root sections P read = (read.0, read.1, read.2.1)
+
 -- a bad outcome
-pub refused_by : (sections : List Section) (lack refusal : List NamedFile → Option Fault) (outcome : Result (Unit {0}) Fault) (files : List NamedFile) → AreImagesOf sections files
-    → MatchResult outcome (λ _. refusal files ≡ None) (IsFaultOf (lack files) (refusal files)) → IfErr outcome (IsRefused sections lack refusal)
-refused_by sections lack refusal (Ok u) files named is = tt
-refused_by sections lack refusal (Err fault) files named is = inr (files, named, is)
+pub refused_by : (reads : List ℕ → Option (List ℕ) → Type 0) (root : Option (Bor (List ℕ))) (sections : List Section) (lack refusal : List NamedFile → Option Fault) (outcome : Result (Unit {0}) Fault) (files : List NamedFile)
+    → AreImagesOf sections files → AreRead reads root sections files
+    → MatchResult outcome (λ _. refusal files ≡ None) (IsFaultOf (lack files) (refusal files)) → IfErr outcome (IsRefused (WithImagesRead reads root sections) sections lack refusal)
+refused_by reads root sections lack refusal (Ok u) files images read is = tt
+refused_by reads root sections lack refusal (Err fault) files images read is = inr (files, images, (read, is))
+
+-- a refusal with images as they were read is one with images
+pub refused_alone : (reads : List ℕ → Option (List ℕ) → Type 0) (root : Option (Bor (List ℕ))) (sections : List Section) (lack refusal : List NamedFile → Option Fault) (outcome : Result (Unit {0}) Fault)
+    → IfErr outcome (IsRefused (WithImagesRead reads root sections) sections lack refusal) → IfErr outcome (IsRefused (WithImages sections) sections lack refusal)
+refused_alone reads root sections lack refusal (Ok u) refused = tt
+refused_alone reads root sections lack refusal (Err fault) (inl unread) = inl unread
+refused_alone reads root sections lack refusal (Err fault) (inr refused) = inr (with_alone reads root sections (λ files. IsFaultOf (lack files) (refusal files) fault) refused)
+
+-- a bad outcome, where symbols may be named
+pub named_by : (reads : List ℕ → Option (List ℕ) → Type 0) (root : Option (Bor (List ℕ))) (sections : List Section) (symbols : Option (Bor (List ℕ))) (refusal : List NamedFile → Option Fault) (outcome : Result (Unit {0}) Fault) (files : List NamedFile)
+    → AreImagesOf sections files → AreRead reads root sections files
+    → MatchResult outcome (λ _. refusal files ≡ None) (IsFaultOf (refusal files) (refusal files)) → IfErr outcome (IsNamedRefusal (WithImagesRead reads root sections) sections symbols refusal)
+named_by reads root sections symbols refusal (Ok u) files images read is = tt
+named_by reads root sections symbols refusal (Err fault) files images read is = inr (files, images, (read, inr is))
+
+-- the symbols are not read
+pub unnamed_by : (reads : List ℕ → Option (List ℕ) → Type 0) (root : Option (Bor (List ℕ))) (sections : List Section) (symbols : Option (Bor (List ℕ))) (refusal : List NamedFile → Option Fault) (fault : Fault) (files : List NamedFile)
+    → AreImagesOf sections files → AreRead reads root sections files → IsSymbolsFileFault symbols fault → IsNamedRefusal (WithImagesRead reads root sections) sections symbols refusal fault
+unnamed_by reads root sections symbols refusal fault files images read unread = inr (files, images, (read, inl unread))
+
+named_fault : (reads : List ℕ → Option (List ℕ) → Type 0) (root : Option (Bor (List ℕ))) (sections : List Section) (symbols : Option (Bor (List ℕ))) (refusal : List NamedFile → Option Fault) (fault : Fault)
+    → IsNamedRefusal (WithImagesRead reads root sections) sections symbols refusal fault → IsNamedRefusal (WithImages sections) sections symbols refusal fault
+named_fault reads root sections symbols refusal fault (inl unread) = inl unread
+named_fault reads root sections symbols refusal fault (inr refused) =
+    inr (with_alone reads root sections (λ files. IsSymbolsFileFault symbols fault ⊎ IsFaultOf (refusal files) (refusal files) fault) refused)
+
+-- a refusal with images as they were read is one with images
+pub named_alone : (reads : List ℕ → Option (List ℕ) → Type 0) (root : Option (Bor (List ℕ))) (sections : List Section) (symbols : Option (Bor (List ℕ))) (refusal : List NamedFile → Option Fault) (outcome : Result (Unit {0}) Fault)
+    → IfErr outcome (IsNamedRefusal (WithImagesRead reads root sections) sections symbols refusal) → IfErr outcome (IsNamedRefusal (WithImages sections) sections symbols refusal)
+named_alone reads root sections symbols refusal (Ok u) refused = tt
+named_alone reads root sections symbols refusal (Err fault) refused = named_fault reads root sections symbols refusal fault refused
 
 -- a fault is of the host, or of another kind
 host_or_other : (fault : Fault) → IsHostFault fault ⊎ (¬ IsHostFault fault)
@@ -139,14 +168,21 @@ run_fault options config fault files question expected old new is named (inl non
 run_fault options config fault files question expected old new is named (inr missing) why silent = inr (inl (missing_fault config files fault old new missing silent))
 
 -- a bad one
-pub failed_by : (options : RunOptions) (config : Configuration) (outcome : Result (Unit {0}) Fault) (files : List NamedFile) (question : RunQuestion) (expected : Option (Bor (List ℕ))) (old new : Option (List ℕ))
-    → AreImagesOf config.sections files → question ≡ run_question options expected → is_some expected ≡ is_some options.expect
+pub failed_by : (reads : List ℕ → Option (List ℕ) → Type 0) (options : RunOptions) (config : Configuration) (outcome : Result (Unit {0}) Fault) (files : List NamedFile) (question : RunQuestion) (expected : Option (Bor (List ℕ))) (old new : Option (List ℕ))
+    → AreImagesOf config.sections files → AreRead reads options.run.root config.sections files → question ≡ run_question options expected → is_some expected ≡ is_some options.expect
     → MatchResult outcome (λ _. missing_image config files ≡ None) (λ fault. (missing_image config files ≡ None) ⊎ IsFaultOf (missing_image config files) (missing_image config files) fault)
     → IfErr outcome (λ fault. missing_image config files ≡ None → IsHostFault fault ⊎ ((n : ℕ) × IsFailed question (world_at config files n) old new fault))
-    → IfErr outcome (λ fault. missing_image config files ≢ None → new ≡ old) → IfErr outcome (IsRunFault options config old new)
-failed_by options config (Ok u) files question expected old new images is named refused why silent = tt
-failed_by options config (Err fault) files question expected old new images is named refused why silent =
-    inr (files, images, run_fault options config fault files question expected old new is named refused why silent)
+    → IfErr outcome (λ fault. missing_image config files ≢ None → new ≡ old) → IfErr outcome (IsRunFault (WithImagesRead reads options.run.root config.sections) options config old new)
+failed_by reads options config (Ok u) files question expected old new images read is named refused why silent = tt
+failed_by reads options config (Err fault) files question expected old new images read is named refused why silent =
+    inr (files, images, (read, run_fault options config fault files question expected old new is named refused why silent))
+
+-- a fault with images as they were read is one with images
+pub run_alone : (reads : List ℕ → Option (List ℕ) → Type 0) (root : Option (Bor (List ℕ))) (options : RunOptions) (config : Configuration) (outcome : Result (Unit {0}) Fault) (old new : Option (List ℕ))
+    → IfErr outcome (IsRunFault (WithImagesRead reads root config.sections) options config old new) → IfErr outcome (IsRunFault (WithImages config.sections) options config old new)
+run_alone reads root options config (Ok u) old new failed = tt
+run_alone reads root options config (Err fault) old new (inl unread) = inl unread
+run_alone reads root options config (Err fault) old new (inr failed) = inr (with_alone reads root config.sections (IsRunFaultWith options config old new fault) failed)
 
 -- ---- a trace
 
@@ -171,20 +207,26 @@ traced_by reads options config (Ok u) files old new images read known written de
 traced_by reads options config (Err fault) files old new images read known written decoded = tt
 
 -- a bad one
-pub untraced_by : (options : TraceOptions) (config : Configuration) (outcome : Result (Unit {0}) Fault) (files : List NamedFile) (old new : Option (List ℕ)) → AreImagesOf config.sections files
+pub untraced_by : (reads : List ℕ → Option (List ℕ) → Type 0) (options : TraceOptions) (config : Configuration) (outcome : Result (Unit {0}) Fault) (files : List NamedFile) (old new : Option (List ℕ))
+    → AreImagesOf config.sections files → AreRead reads options.run.root config.sections files
     → IfErr outcome (λ fault. IsSymbolsFileFault options.symbols fault ⊎ IsFaultOf (partition_refusal options.partition.now config files) (partition_refusal options.partition.now config files) fault)
-    → IfErr outcome (λ fault. IsSilent fault old new) → IfErr outcome (IsTraceFault options config old new)
-untraced_by options config (Ok u) files old new images failed silent = tt
-untraced_by options config (Err fault) files old new images (inl symbols) silent = (inl symbols, silent)
-untraced_by options config (Err fault) files old new images (inr refused) silent = (inr (inr (files, images, refused)), silent)
+    → IfErr outcome (λ fault. IsSilent fault old new) → IfErr outcome (IsTraceFault (WithImagesRead reads options.run.root config.sections) options config old new)
+untraced_by reads options config (Ok u) files old new images read failed silent = tt
+untraced_by reads options config (Err fault) files old new images read failed silent = (inr (files, images, (read, failed)), silent)
+
+-- a fault with images as they were read is one with images
+pub trace_alone : (reads : List ℕ → Option (List ℕ) → Type 0) (root : Option (Bor (List ℕ))) (options : TraceOptions) (config : Configuration) (outcome : Result (Unit {0}) Fault) (old new : Option (List ℕ))
+    → IfErr outcome (IsTraceFault (WithImagesRead reads root config.sections) options config old new) → IfErr outcome (IsTraceFault (WithImages config.sections) options config old new)
+trace_alone reads root options config (Ok u) old new failed = tt
+trace_alone reads root options config (Err fault) old new failed = (named_fault reads root config.sections options.symbols (partition_refusal options.partition.now config) fault failed.0, failed.1)
 
 -- the status, of the configuration that a trace is made of
 pub trace_ended : (options : TraceOptions) (config kept : Configuration) (outcome : Result (Unit {0}) Fault) (status : ℕ) (old new : Option (List ℕ)) → kept ≡ as_traced options config
-    → OnOk outcome (WithImages kept.sections (IsTraceOf options kept old new)) → IfErr outcome (IsTraceFault options kept old new)
+    → OnOk outcome (WithImages kept.sections (IsTraceOf options kept old new)) → IfErr outcome (IsTraceFault (WithImages kept.sections) options kept old new)
     → OnOk outcome (status ≡ status_number Done) → IfErr outcome (λ fault. status ≡ status_number (status_of fault)) → IsTraceStatus options old new config status
 trace_ended options config kept outcome status old new same traced failed done is =
-    subst (λ (k : Configuration). IsEndStatus (WithImages k.sections (IsTraceOf options k old new)) (IsTraceFault options k old new) status) same
-    (ended (WithImages kept.sections (IsTraceOf options kept old new)) (IsTraceFault options kept old new) outcome status traced failed done is)
+    subst (λ (k : Configuration). IsEndStatus (WithImages k.sections (IsTraceOf options k old new)) (IsTraceFault (WithImages k.sections) options k old new) status) same
+    (ended (WithImages kept.sections (IsTraceOf options kept old new)) (IsTraceFault (WithImages kept.sections) options kept old new) outcome status traced failed done is)
 
 -- ---- a check
 
@@ -205,6 +247,44 @@ unsound_by explain bytes config files (Err fault) old said new explained is sile
       | inl host ↦ inl host
       | inr other ↦ inr (subst (λ (n : Option (List ℕ)). PutsExplained explain bytes files old n) (sym (silent other)) explained, is)
     ]
+
+-- a bad one in lines, with the images as they were read
+pub lines_fault : (reads : List ℕ → Option (List ℕ) → Type 0) (root : Option (Bor (List ℕ))) (explain : Bool) (bytes : List ℕ) (config : Configuration) (outcome : Result (Unit {0}) Fault) (files : List NamedFile) (old new : Option (List ℕ))
+    → AreImagesOf config.sections files → AreRead reads root config.sections files
+    → IfErr outcome (λ fault. IsHostFault fault ⊎ IsCheckRefusal form.Text explain bytes config old new fault files)
+    → IfErr outcome (IsCheckFault (WithImagesRead reads root config.sections) form.Text explain bytes config old new)
+lines_fault reads root explain bytes config (Ok u) files old new images read failed = tt
+lines_fault reads root explain bytes config (Err fault) files old new images read failed = inr (files, images, (read, failed))
+
+-- a bad one as JSON, with the images as they were read
+pub object_fault : (reads : List ℕ → Option (List ℕ) → Type 0) (root : Option (Bor (List ℕ))) (explain : Bool) (bytes : List ℕ) (config : Configuration) (outcome : Result (Unit {0}) Fault) (files : List NamedFile) (old new : Option (List ℕ))
+    → AreImagesOf config.sections files → AreRead reads root config.sections files
+    → IfErr outcome (λ fault. IsUnsaid form.Json bytes files fault ⊎ (PutsObject (Some (line_of fault)) bytes files old new × IsFaultOf (missing_image config files) (check_refusal config files) fault))
+    → IfErr outcome (IsFormFault (WithImagesRead reads root config.sections) form.Json explain bytes config old new)
+object_fault reads root explain bytes config (Ok u) files old new images read failed = tt
+object_fault reads root explain bytes config (Err fault) files old new images read (inl (inl none)) = inl (files, images, (read, none))
+object_fault reads root explain bytes config (Err fault) files old new images read (inl (inr host)) = inr (inr (files, images, (read, inl host)))
+object_fault reads root explain bytes config (Err fault) files old new images read (inr refused) = inr (inr (files, images, (read, inr refused)))
+
+check_fault : (reads : List ℕ → Option (List ℕ) → Type 0) (root : Option (Bor (List ℕ))) (format : Format) (explain : Bool) (bytes : List ℕ) (config : Configuration) (old new : Option (List ℕ)) (fault : Fault)
+    → IsCheckFault (WithImagesRead reads root config.sections) format explain bytes config old new fault → IsCheckFault (WithImages config.sections) format explain bytes config old new fault
+check_fault reads root format explain bytes config old new fault (inl unread) = inl unread
+check_fault reads root format explain bytes config old new fault (inr failed) =
+    inr (with_alone reads root config.sections (λ files. IsHostFault fault ⊎ IsCheckRefusal format explain bytes config old new fault files) failed)
+
+-- a fault with images as they were read is one with images
+pub check_alone : (reads : List ℕ → Option (List ℕ) → Type 0) (root : Option (Bor (List ℕ))) (format : Format) (explain : Bool) (bytes : List ℕ) (config : Configuration) (outcome : Result (Unit {0}) Fault) (old new : Option (List ℕ))
+    → IfErr outcome (IsCheckFault (WithImagesRead reads root config.sections) format explain bytes config old new)
+    → IfErr outcome (IsCheckFault (WithImages config.sections) format explain bytes config old new)
+check_alone reads root format explain bytes config (Ok u) old new failed = tt
+check_alone reads root format explain bytes config (Err fault) old new failed = check_fault reads root format explain bytes config old new fault failed
+
+pub form_alone : (reads : List ℕ → Option (List ℕ) → Type 0) (root : Option (Bor (List ℕ))) (format : Format) (explain : Bool) (bytes : List ℕ) (config : Configuration) (outcome : Result (Unit {0}) Fault) (old new : Option (List ℕ))
+    → IfErr outcome (IsFormFault (WithImagesRead reads root config.sections) format explain bytes config old new)
+    → IfErr outcome (IsFormFault (WithImages config.sections) format explain bytes config old new)
+form_alone reads root format explain bytes config (Ok u) old new failed = tt
+form_alone reads root format explain bytes config (Err fault) old new (inl none) = inl (with_alone reads root config.sections (λ files. IsNoExplanation format bytes files fault) none)
+form_alone reads root format explain bytes config (Err fault) old new (inr failed) = inr (check_fault reads root format explain bytes config old new fault failed)
 
 -- the status of a text that is refused
 pub check_refused : (options : CheckOptions) (bytes : List ℕ) (fault said : Fault) (status : ℕ) (old new : Option (List ℕ)) → IsConfigFault bytes fault

@@ -55,9 +55,14 @@ pub record AreRead (reads : List ℕ → Option (List ℕ) → Type 0) (root : O
 abbrev pub WithImagesRead : (List ℕ → Option (List ℕ) → Type 0) → Option (Bor (List ℕ)) → List Section → (List NamedFile → Type 0) → Type 0
 WithImagesRead reads root sections P = WithImages sections (λ files. AreRead reads root sections files × P files)
 
--- an image is not read; or with those that were read it is the fault by what is lacking and by the refusal (own)
-abbrev pub IsRefused : List Section → (List NamedFile → Option Fault) → (List NamedFile → Option Fault) → Fault → Type 0
-IsRefused sections lack refusal fault = IsImagesFault sections fault ⊎ WithImages sections (λ files. IsFaultOf (lack files) (refusal files) fault)
+-- an image is not read; or with such images it is the fault by what is lacking and by the refusal (own)
+abbrev pub IsRefused : ((List NamedFile → Type 0) → Type 0) → List Section → (List NamedFile → Option Fault) → (List NamedFile → Option Fault) → Fault → Type 0
+IsRefused images sections lack refusal fault = IsImagesFault sections fault ⊎ images (λ files. IsFaultOf (lack files) (refusal files) fault)
+
+-- an image is not read; or with such images the symbols are not, or it is the refusal (own)
+abbrev pub IsNamedRefusal : ((List NamedFile → Type 0) → Type 0) → List Section → Option (Bor (List ℕ)) → (List NamedFile → Option Fault) → Fault → Type 0
+IsNamedRefusal images sections symbols refusal fault =
+    IsImagesFault sections fault ⊎ images (λ files. IsSymbolsFileFault symbols fault ⊎ IsFaultOf (refusal files) (refusal files) fault)
 
 -- ---- the writer
 
@@ -132,15 +137,15 @@ abbrev pub IsCheckRefusal : Format → Bool → List ℕ → Configuration → O
 IsCheckRefusal format explain bytes config old new fault files =
     PutsRefusal format explain (line_of fault) bytes files old new × IsFaultOf (missing_image config files) (check_refusal config files) fault
 
--- it is of the host; an image is not read, and nothing is written; or it is the refusal of a check (own)
-abbrev pub IsCheckFault : Format → Bool → List ℕ → Configuration → Option (List ℕ) → Option (List ℕ) → Fault → Type 0
-IsCheckFault format explain bytes config old new fault =
-    IsHostFault fault ⊎ ((IsImagesFault config.sections fault × (new ≡ old)) ⊎ WithImages config.sections (IsCheckRefusal format explain bytes config old new fault))
+-- an image is not read, and nothing is written; or with such images it is of the host, or the refusal of a check (own)
+abbrev pub IsCheckFault : ((List NamedFile → Type 0) → Type 0) → Format → Bool → List ℕ → Configuration → Option (List ℕ) → Option (List ℕ) → Fault → Type 0
+IsCheckFault images format explain bytes config old new fault =
+    (IsImagesFault config.sections fault × (new ≡ old)) ⊎ images (λ files. IsHostFault fault ⊎ IsCheckRefusal format explain bytes config old new fault files)
 
--- in this form the explanation is no text, or it is the fault of a check (own)
-abbrev pub IsFormFault : Format → Bool → List ℕ → Configuration → Option (List ℕ) → Option (List ℕ) → Fault → Type 0
-IsFormFault format explain bytes config old new fault =
-    WithImages config.sections (λ files. IsNoExplanation format bytes files fault) ⊎ IsCheckFault format explain bytes config old new fault
+-- with such images the explanation in this form is no text, or it is the fault of a check (own)
+abbrev pub IsFormFault : ((List NamedFile → Type 0) → Type 0) → Format → Bool → List ℕ → Configuration → Option (List ℕ) → Option (List ℕ) → Fault → Type 0
+IsFormFault images format explain bytes config old new fault =
+    images (λ files. IsNoExplanation format bytes files fault) ⊎ IsCheckFault images format explain bytes config old new fault
 
 -- ---- a run
 
@@ -187,10 +192,9 @@ IsRunFaultWith options config old new fault files =
 abbrev pub IsUnreadRun : RunOptions → Configuration → Fault → Type 0
 IsUnreadRun options config fault = IsNamedReadFault options.expect fault ⊎ IsImagesFault config.sections fault
 
--- the expected report or an image is not read, and nothing is written, or it is the fault of a run with the images that were (own)
-abbrev pub IsRunFault : RunOptions → Configuration → Option (List ℕ) → Option (List ℕ) → Fault → Type 0
-IsRunFault options config old new fault =
-    (IsUnreadRun options config fault × (new ≡ old)) ⊎ WithImages config.sections (IsRunFaultWith options config old new fault)
+-- the expected report or an image is not read, and nothing is written, or it is the fault of a run with such images (own)
+abbrev pub IsRunFault : ((List NamedFile → Type 0) → Type 0) → RunOptions → Configuration → Option (List ℕ) → Option (List ℕ) → Fault → Type 0
+IsRunFault images options config old new fault = (IsUnreadRun options config fault × (new ≡ old)) ⊎ images (IsRunFaultWith options config old new fault)
 
 -- ---- a trace
 
@@ -219,11 +223,10 @@ pub record IsTraceOf (options : TraceOptions) (config : Configuration) (old new 
   pub written : PutsTrace options config files old new
   pub decoded : options.decode ≡ true → PutsDecoded options config files old new
 
--- the symbols are not read; or it is the refusal of a trace; and where it is not of the host nothing is written (own)
-abbrev pub IsTraceFault : TraceOptions → Configuration → Option (List ℕ) → Option (List ℕ) → Fault → Type 0
-IsTraceFault options config old new fault =
-    let refusal = partition_refusal options.partition.now config in
-    (IsSymbolsFileFault options.symbols fault ⊎ IsRefused config.sections refusal refusal fault) × IsSilent fault old new
+-- an image is not read; or with such images the symbols are not, or it is the refusal of a trace; and where it is not of the host nothing is written (own)
+abbrev pub IsTraceFault : ((List NamedFile → Type 0) → Type 0) → TraceOptions → Configuration → Option (List ℕ) → Option (List ℕ) → Fault → Type 0
+IsTraceFault images options config old new fault =
+    IsNamedRefusal images config.sections options.symbols (partition_refusal options.partition.now config) fault × IsSilent fault old new
 
 -- ---- a comparison
 
@@ -252,12 +255,12 @@ WithReleasesRead reads options earlier later P = WithReleases earlier later (λ 
 abbrev pub question_of : ImpactOptions → Question
 question_of options = record { partition = options.partition; rename = options.rename }
 
--- what stands between two configurations is written in a form, with the counts (own)
+-- how two configurations differ is written in a form, with the counts (own)
 abbrev pub PutsComparison : Format → List Renamed → Option (Bor (List ℕ)) → Release → Release → Tally → Option (List ℕ) → Option (List ℕ) → Type 0
 PutsComparison form.Text renames asked before after tally old new = PutsLines renames asked before after tally old new
 PutsComparison form.Json renames asked before after tally old new = PutsAnswer renames asked before after tally old new
 
--- nothing is refused, the counts are clear if and only if the partitions that are asked for are the same runs, and what stands between them is written in the form that is asked for (own)
+-- nothing is refused, the counts are clear if and only if the partitions that are asked for are the same runs, and how they differ is written in the form that is asked for (own)
 pub record IsComparison (options : ImpactOptions) (tally : Tally) (old new : Option (List ℕ)) (before after : Release) : Type 0 where
   pub accepted : refusal before after (question_of options) ≡ None
   pub same : IsOkAnd (renames_of options.rename) (λ renames. IsClear tally ↔ AreSameRuns renames options.partition before after)

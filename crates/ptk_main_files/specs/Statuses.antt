@@ -40,13 +40,13 @@ IsConfigRead reads Q name P status =
 -- run: done only where the run has what was asked of it (own)
 abbrev pub IsRunStatus : RunOptions → Option (List ℕ) → Option (List ℕ) → Configuration → ℕ → Type 0
 IsRunStatus options old new config status =
-    IsEndStatus (WithImages config.sections (IsRunOf options config old new)) (IsRunFault options config old new) status
+    IsEndStatus (WithImages config.sections (IsRunOf options config old new)) (IsRunFault (WithImages config.sections) options config old new) status
 
 -- trace: done only where the partition and all images are there, and its trace is written (own)
 abbrev pub IsTraceStatus : TraceOptions → Option (List ℕ) → Option (List ℕ) → Configuration → ℕ → Type 0
 IsTraceStatus options old new config status =
     let kept = as_traced options config in
-    IsEndStatus (WithImages kept.sections (IsTraceOf options kept old new)) (IsTraceFault options kept old new) status
+    IsEndStatus (WithImages kept.sections (IsTraceOf options kept old new)) (IsTraceFault (WithImages kept.sections) options kept old new) status
 
 -- check: done only where the configuration that the text states is sound, and what is asked for is written (own)
 abbrev pub IsCheckStatus : CheckOptions → Option (List ℕ) → Option (List ℕ) → List ℕ → ℕ → Type 0
@@ -54,7 +54,7 @@ IsCheckStatus options old new bytes status =
     let format = options.format in let explain = options.explain in
     IsFaultStatus (IsUnsaid format bytes []) status
     ⊎ IsStatedStatus (λ fault. PutsRefusal format explain (line_of fault) bytes [] old new)
-    (λ config. IsEndStatus (IsSound format explain bytes config old new) (IsFormFault format explain bytes config old new)) bytes status
+    (λ config. IsEndStatus (IsSound format explain bytes config old new) (IsFormFault (WithImages config.sections) format explain bytes config old new)) bytes status
 
 -- impact, of such releases: done only where the partitions that are asked for are the same runs, and different only where they are not (own)
 abbrev pub IsImpactStatusOf : ((Release → Release → Type 0) → Type 0) → ImpactOptions → Option (List ℕ) → Option (List ℕ) → Configuration → Configuration → ℕ → Type 0

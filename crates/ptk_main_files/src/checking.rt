@@ -5,7 +5,7 @@ ghost use Rattle.ptk_main_faults.specs.HostFaults.{IsHostFault};
 ghost use Rattle.ptk_main_faults.specs.Lines.{line_of};
 ghost use Rattle.ptk_main_faults.specs.declared.fault.Fault.TheVariants.{NoMemory};
 ghost use Rattle.ptk_main_answers.specs.Refusals.{IsFaultOf, missing_image};
-ghost use Rattle.ptk_main_files.specs.Outcomes.{IsCheckFault, IsCheckRefusal, IsFormFault, IsSound, IsSoundWith, IsTextExplanation, IsUnsaid, PutsCheck, PutsExplained, PutsExplanation, PutsObject, PutsRefusal, WithImagesRead, check_refusal};
+ghost use Rattle.ptk_main_files.specs.Outcomes.{IsCheckFault, IsCheckRefusal, IsFormFault, IsSound, IsSoundWith, IsTextExplanation, IsUnsaid, PutsCheck, PutsExplained, PutsExplanation, PutsObject, PutsRefusal, WithImages, WithImagesRead, check_refusal};
 ghost use Rattle.ptk_main_files.specs.Statuses.{IsCheckEnd, IsCheckStatus};
 
 use crate::explaining::{put_explained, put_on_request};
@@ -53,7 +53,7 @@ fn check_in_form<'a, R: FileReader, W: Write>(
     out: &mut W,
 ) -> Result<(), Fault<'a>>
     ensures sound { OnOk result (WithImagesRead (R.reads reader.now) options.entry.root config.now.sections (IsSoundWith options.entry.format options.entry.explain text.now config.now (W.contents out.old) (W.contents out.new))) }
-    ensures failed { IfErr result (IsFormFault options.entry.format options.entry.explain text.now config.now (W.contents out.old) (W.contents out.new)) }
+    ensures failed { IfErr result (IsFormFault (WithImagesRead (R.reads reader.now) options.entry.root config.now.sections) options.entry.format options.entry.explain text.now config.now (W.contents out.old) (W.contents out.new)) }
 {
     match options.format {
         Format::Text => check_lines(reader, alloc, text, config, options, out),
@@ -106,7 +106,7 @@ pub fn check_config<'a, W: Write>(
     out: &mut W,
 ) -> Result<(), Fault<'a>>
     ensures sound { OnOk result (IsSound Format.Text options.entry.explain text.now config.now (W.contents out.old) (W.contents out.new)) }
-    ensures failed { IfErr result (IsCheckFault Format.Text options.entry.explain text.now config.now (W.contents out.old) (W.contents out.new)) }
+    ensures failed { IfErr result (IsCheckFault (WithImages config.now.sections) Format.Text options.entry.explain text.now config.now (W.contents out.old) (W.contents out.new)) }
 {
     check_lines(&HostFiles::of(rt), rt.alloc(), text, config, options, out)
 }
@@ -121,7 +121,7 @@ fn check_lines<'a, R: FileReader, W: Write>(
     out: &mut W,
 ) -> Result<(), Fault<'a>>
     ensures sound { OnOk result (WithImagesRead (R.reads reader.now) options.entry.root config.now.sections (IsSoundWith Format.Text options.entry.explain text.now config.now (W.contents out.old) (W.contents out.new))) }
-    ensures failed { IfErr result (IsCheckFault Format.Text options.entry.explain text.now config.now (W.contents out.old) (W.contents out.new)) }
+    ensures failed { IfErr result (IsCheckFault (WithImagesRead (R.reads reader.now) options.entry.root config.now.sections) Format.Text options.entry.explain text.now config.now (W.contents out.old) (W.contents out.new)) }
 {
     let files = images_by(reader, alloc, config, options.root)?;
     put_check(alloc, text, config, &files, options.explain, out)
@@ -155,7 +155,7 @@ fn check_json<'a, R: FileReader, W: Write>(
     out: &mut W,
 ) -> Result<(), Fault<'a>>
     ensures sound { OnOk result (WithImagesRead (R.reads reader.now) options.entry.root config.now.sections (IsSoundWith Format.Json options.entry.explain text.now config.now (W.contents out.old) (W.contents out.new))) }
-    ensures failed { IfErr result (IsFormFault Format.Json options.entry.explain text.now config.now (W.contents out.old) (W.contents out.new)) }
+    ensures failed { IfErr result (IsFormFault (WithImagesRead (R.reads reader.now) options.entry.root config.now.sections) Format.Json options.entry.explain text.now config.now (W.contents out.old) (W.contents out.new)) }
 {
     let files = images_by(reader, alloc, config, options.root)?;
     put_object(alloc, text, config, &files, out)

@@ -13,14 +13,14 @@ use ptk_main_tools::{FileReader, HostFiles, config_by, images_by, tell};
 use std::alloc::Global;
 use std::io::Write;
 
-/// Writes what stands between the configurations in two files, and gives the number of the status.
+/// Writes how the configurations in two files differ, and gives the number of the status.
 pub fn impact<W: Write>(rt: &HostRuntime, options: ImpactOptions<'_>, out: &mut W) -> u8
     ensures { IsImpactEnd options.entry (W.contents out.old) (W.contents out.new) result }
 {
     impact_by(rt, &HostFiles::of(rt), options, out)
 }
 
-// Writes what stands between the configurations in two files, and their images, as this reader has them.
+// Writes how the configurations in two files differ, and their images, as this reader has them.
 fn impact_by<R: FileReader, W: Write>(
     rt: &HostRuntime,
     reader: &R,
@@ -68,7 +68,7 @@ fn impact_between<R: FileReader, W: Write>(
     }
 }
 
-// Writes what stands between two configurations, with the images of each as this reader has them.
+// Writes how two configurations differ, with the images of each as this reader has them.
 fn put_impact<'a, R: FileReader, W: Write>(
     reader: &R,
     alloc: Global,
@@ -93,7 +93,7 @@ fn put_impact<'a, R: FileReader, W: Write>(
     compare(alloc, before, after, options, out)
 }
 
-// Writes what stands between two configurations with their images, in the form that is asked for.
+// Writes how two configurations with their images differ, in the form that is asked for.
 fn compare<'a, W: Write>(
     alloc: Global,
     before: Release<'a, '_>,

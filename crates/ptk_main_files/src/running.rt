@@ -51,7 +51,7 @@ fn run_config<'a, R: FileReader, W: Write>(
 ) -> Result<(), Fault<'a>>
     requires { options.run.ticks ≤ LAST_TICK }
     ensures passed { OnOk result (WithImagesRead (R.reads reader.now) options.entry.run.root config.now.sections (IsRunOf options.entry config.now (W.contents out.old) (W.contents out.new))) }
-    ensures failed { IfErr result (IsRunFault options.entry config.now (W.contents out.old) (W.contents out.new)) }
+    ensures failed { IfErr result (IsRunFault (WithImagesRead (R.reads reader.now) options.entry.run.root config.now.sections) options.entry config.now (W.contents out.old) (W.contents out.new)) }
 {
     let expected = expected_bytes(rt, options.expect)?;
     let files = images_by(reader, rt.alloc(), config, options.run.root)?;
@@ -81,10 +81,7 @@ fn expected_bytes<'a>(rt: &HostRuntime, name: Option<&'a str>) -> Result<Option<
     ensures unread { IfErr result (IsNamedReadFault name.entry) }
 {
     match name {
-        Some(name) => match bytes_in(rt, name) {
-            Ok(bytes) => Ok(Some(bytes)),
-            Err(fault) => Err(fault),
-        },
+        Some(name) => Ok(Some(bytes_in(rt, name)?)),
         None => Ok(None),
     }
 }

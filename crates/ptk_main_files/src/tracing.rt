@@ -89,7 +89,7 @@ fn trace_config<'a, R: FileReader, W: Write>(
 ) -> Result<(), Fault<'a>>
     requires { IsTraceInRange options }
     ensures traced { OnOk result (WithImagesRead (R.reads reader.now) options.entry.run.root config.now.sections (IsTraceOf options.entry config.now (W.contents out.old) (W.contents out.new))) }
-    ensures failed { IfErr result (IsTraceFault options.entry config.now (W.contents out.old) (W.contents out.new)) }
+    ensures failed { IfErr result (IsTraceFault (WithImagesRead (R.reads reader.now) options.entry.run.root config.now.sections) options.entry config.now (W.contents out.old) (W.contents out.new)) }
 {
     let files = images_by(reader, rt.alloc(), config, options.run.root)?;
     put_steps(rt, config, &files, options, out)

@@ -2,7 +2,7 @@ use Rattle.std.proofs.Common.{ℕ, List, Option, refl, ap, inl, inr}
 use Rattle.std.proofs.lemmas.Result.{IfErr-weaker}
 use Rattle.ptk_main_faults.specs.declared.fault.Fault.{Fault}
 use Rattle.ptk_main_files.specs.Outcomes.{IsRefused, IsSilent, WithImages}
-use Rattle.ptk_main_files.proofs.Outcomes.{ended, images_alone}
+use Rattle.ptk_main_files.proofs.Outcomes.{ended, images_alone, refused_alone}
 use Rattle.ptk_main_commands.specs.Answered.{IsStatsOf}
 use Rattle.ptk_main_commands.specs.Refusals.{stats_refusal}
 use Rattle.ptk_main_commands.proofs.Answered.{silently}
@@ -12,13 +12,15 @@ pub returns-in-Ok : goal.returns-in-Ok
 returns-in-Ok g c =
     let old : Option (List ℕ) = g.W.Write.contents c.args.out.now in
     let new : Option (List ℕ) = g.W.Write.contents c.stats_config.new.out in
-    let refused : Fault → Type 0 = IsRefused c.in-Ok.config.sections (stats_refusal c.args.options.partition c.in-Ok.config) (stats_refusal c.args.options.partition c.in-Ok.config) in
+    let refused : Fault → Type 0 = IsRefused (WithImages c.in-Ok.config.sections) c.in-Ok.config.sections (stats_refusal c.args.options.partition c.in-Ok.config) (stats_refusal c.args.options.partition c.in-Ok.config) in
     inr (
       c.in-Ok.config,
       c.in-Ok.ensures.stated,
       ended (WithImages c.in-Ok.config.sections (IsStatsOf c.args.options c.in-Ok.config old new)) (λ fault. refused fault × IsSilent fault old new) c.stats_config.result c.end.result
           (images_alone (λ _ _. Unit {0}) c.args.options.run.root c.in-Ok.config.sections (IsStatsOf c.args.options c.in-Ok.config old new) c.stats_config.result c.stats_config.ensures.accepted)
-          (silently refused c.stats_config.result old new c.stats_config.ensures.refused (IfErr-weaker c.stats_config.result _ _ (λ fault silent other. ap g.W.Write.contents (silent other)) c.stats_config.ensures.silent))
+          (silently refused c.stats_config.result old new
+          (refused_alone (λ _ _. Unit {0}) c.args.options.run.root c.in-Ok.config.sections (stats_refusal c.args.options.partition c.in-Ok.config) (stats_refusal c.args.options.partition c.in-Ok.config) c.stats_config.result c.stats_config.ensures.refused)
+          (IfErr-weaker c.stats_config.result _ _ (λ fault silent other. ap g.W.Write.contents (silent other)) c.stats_config.ensures.silent))
           c.end.ensures.done c.end.ensures.failed,
     )
 

@@ -1,7 +1,6 @@
-use Rattle.std.proofs.Common.{◌∙◌, inr}
-use Rattle.std.proofs.lemmas.Result.{IfErr-weaker}
-use Rattle.ptk_main_files.specs.Outcomes.{partition_refusal}
-use Rattle.ptk_main_files.proofs.Outcomes.{refused_by}
+use Rattle.std.proofs.Common.{◌∙◌, inl, inr}
+use Rattle.ptk_main_files.specs.Outcomes.{IsNamedRefusal, WithImagesRead, partition_refusal}
+use Rattle.ptk_main_files.proofs.Outcomes.{named_by, passed_on, unnamed_by}
 use Rattle.ptk_main_commands.proofs.Answered.{explanation_by}
 use Rattle.ptk_main_commands.proofs.standing.explain_config.Goals as goal
 
@@ -12,6 +11,37 @@ returns-clause-accepted g c =
 
 pub returns-clause-refused : goal.returns-clause-refused
 returns-clause-refused g c =
+    let reads = g.R.FileReader.reads c.args.reader.now in
+    let sections = c.args.config.now.sections in
     let refusal = partition_refusal c.args.options.partition.now c.args.config.now in
-    IfErr-weaker c.standing_answer.result _ _ (λ fault refused. inr refused)
-    (refused_by c.args.config.now.sections refusal refusal c.standing_answer.result c.in_ok-files.files c.in_ok-files.ensures.named c.standing_answer.ensures.refused)
+    named_by reads c.args.options.run.root sections c.args.options.symbols refusal c.standing_answer.result c.in_ok-files.files
+    c.in_ok-files.ensures.named (record { read = c.in_ok-files.ensures.read; there = c.in_ok-files.ensures.there })
+    c.standing_answer.ensures.refused
+
+pub returns-in_err-files-clause-refused : goal.returns-in_err-files-clause-refused
+returns-in_err-files-clause-refused g c =
+    let reads = g.R.FileReader.reads c.args.reader.now in
+    let sections = c.args.config.now.sections in
+    let refusal = partition_refusal c.args.options.partition.now c.args.config.now in
+    passed_on (IsNamedRefusal (WithImagesRead reads c.args.options.run.root sections) sections c.args.options.symbols refusal)
+    c.from_residual.result c.in_err-files.field-0.0 c.from_residual.ensures.1 (inl c.in_err-files.ensures.unread)
+
+pub returns-in_err-text-clause-refused : goal.returns-in_err-text-clause-refused
+returns-in_err-text-clause-refused g c =
+    let reads = g.R.FileReader.reads c.args.reader.now in
+    let sections = c.args.config.now.sections in
+    let refusal = partition_refusal c.args.options.partition.now c.args.config.now in
+    passed_on (IsNamedRefusal (WithImagesRead reads c.args.options.run.root sections) sections c.args.options.symbols refusal)
+    c.from_residual-in_err-text.result c.in_err-text.field-0.0 c.from_residual-in_err-text.ensures.1
+    (unnamed_by reads c.args.options.run.root sections c.args.options.symbols refusal c.in_err-text.field-0.0 c.in_ok-files.files
+    c.in_ok-files.ensures.named (record { read = c.in_ok-files.ensures.read; there = c.in_ok-files.ensures.there }) (inl c.in_err-text.ensures.unread))
+
+pub returns-in_err-symbols-clause-refused : goal.returns-in_err-symbols-clause-refused
+returns-in_err-symbols-clause-refused g c =
+    let reads = g.R.FileReader.reads c.args.reader.now in
+    let sections = c.args.config.now.sections in
+    let refusal = partition_refusal c.args.options.partition.now c.args.config.now in
+    passed_on (IsNamedRefusal (WithImagesRead reads c.args.options.run.root sections) sections c.args.options.symbols refusal)
+    c.from_residual-in_err-symbols.result c.in_err-symbols.field-0.0 c.from_residual-in_err-symbols.ensures.1
+    (unnamed_by reads c.args.options.run.root sections c.args.options.symbols refusal c.in_err-symbols.field-0.0 c.in_ok-files.files
+    c.in_ok-files.ensures.named (record { read = c.in_ok-files.ensures.read; there = c.in_ok-files.ensures.there }) (inr (c.as_str.result.now, c.in_err-symbols.ensures.refused)))

@@ -14,7 +14,7 @@ returns-in-Text-clause-sound g c =
 pub returns-in-Text-clause-failed : goal.returns-in-Text-clause-failed
 returns-in-Text-clause-failed g c =
     subst
-    (λ (f : Format). IfErr c.check_lines.result (IsFormFault f c.args.options.explain c.args.text.now c.args.config.now (g.W.Write.contents c.args.out.now) (g.W.Write.contents c.check_lines.new.out)))
+    (λ (f : Format). IfErr c.check_lines.result (IsFormFault (WithImagesRead (g.R.FileReader.reads c.args.reader.now) c.args.options.root c.args.config.now.sections) f c.args.options.explain c.args.text.now c.args.config.now (g.W.Write.contents c.args.out.now) (g.W.Write.contents c.check_lines.new.out)))
     (sym c.in-Text.is) (IfErr-weaker c.check_lines.result _ _ (λ fault failed. inr failed) c.check_lines.ensures.failed)
 
 pub returns-in-Json-clause-sound : goal.returns-in-Json-clause-sound
@@ -26,5 +26,5 @@ returns-in-Json-clause-sound g c =
 pub returns-in-Json-clause-failed : goal.returns-in-Json-clause-failed
 returns-in-Json-clause-failed g c =
     subst
-    (λ (f : Format). IfErr c.check_json.result (IsFormFault f c.args.options.explain c.args.text.now c.args.config.now (g.W.Write.contents c.args.out.now) (g.W.Write.contents c.check_json.new.out)))
+    (λ (f : Format). IfErr c.check_json.result (IsFormFault (WithImagesRead (g.R.FileReader.reads c.args.reader.now) c.args.options.root c.args.config.now.sections) f c.args.options.explain c.args.text.now c.args.config.now (g.W.Write.contents c.args.out.now) (g.W.Write.contents c.check_json.new.out)))
     (sym c.in-Json.is) c.check_json.ensures.failed

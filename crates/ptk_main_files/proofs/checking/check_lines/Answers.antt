@@ -1,7 +1,7 @@
-use Rattle.std.proofs.Common.{inl, inr}
-use Rattle.std.proofs.lemmas.Result.{IfErr-weaker}
+use Rattle.std.proofs.Common.{inl, refl}
 use Rattle.ptk_main_line.specs.declared.requests.Format.TheVariants as form
-use Rattle.ptk_main_files.proofs.Outcomes.{sound_by}
+use Rattle.ptk_main_files.specs.Outcomes.{IsCheckFault, WithImagesRead}
+use Rattle.ptk_main_files.proofs.Outcomes.{lines_fault, passed_on, sound_by}
 use Rattle.ptk_main_files.proofs.checking.check_lines.Goals as goal
 
 pub returns-clause-sound : goal.returns-clause-sound
@@ -11,4 +11,11 @@ returns-clause-sound g c =
 
 pub returns-clause-failed : goal.returns-clause-failed
 returns-clause-failed g c =
-    IfErr-weaker c.put_check.result _ _ (λ fault failed. elim failed [ inl host ↦ inl host | inr refused ↦ inr (inr (c.in_ok-files.files, c.in_ok-files.ensures.named, refused)) ]) c.put_check.ensures.failed
+    lines_fault (g.R.FileReader.reads c.args.reader.now) c.args.options.root c.args.options.explain c.args.text.now c.args.config.now c.put_check.result c.in_ok-files.files (g.W.Write.contents c.args.out.now) (g.W.Write.contents c.put_check.new.out)
+    c.in_ok-files.ensures.named (record { read = c.in_ok-files.ensures.read; there = c.in_ok-files.ensures.there }) c.put_check.ensures.failed
+
+pub returns-in_err-files-clause-failed : goal.returns-in_err-files-clause-failed
+returns-in_err-files-clause-failed g c =
+    passed_on
+    (IsCheckFault (WithImagesRead (g.R.FileReader.reads c.args.reader.now) c.args.options.root c.args.config.now.sections) form.Text c.args.options.explain c.args.text.now c.args.config.now (g.W.Write.contents c.args.out.now) (g.W.Write.contents c.args.out.now))
+    c.from_residual.result c.in_err-files.field-0.0 c.from_residual.ensures.1 (inl (c.in_err-files.ensures.unread, refl))

@@ -1,6 +1,6 @@
 use Rattle.std.proofs.Common.{inr}
-use Rattle.ptk_main_files.specs.Outcomes.{IsFormFault, IsSound, IsSoundWith}
-use Rattle.ptk_main_files.proofs.Outcomes.{check_refused, ended, images_alone}
+use Rattle.ptk_main_files.specs.Outcomes.{IsFormFault, IsSound, IsSoundWith, WithImages}
+use Rattle.ptk_main_files.proofs.Outcomes.{check_refused, ended, form_alone, images_alone}
 use Rattle.ptk_main_files.proofs.checking.check_text.Goals as goal
 
 pub returns-in-Ok : goal.returns-in-Ok
@@ -12,9 +12,9 @@ returns-in-Ok g c =
     inr (inr (
       config,
       c.in-Ok.ensures.stated,
-      ended (IsSound options.format options.explain c.args.text.now config old new) (IsFormFault options.format options.explain c.args.text.now config old new) c.check_in_form.result c.end.result
+      ended (IsSound options.format options.explain c.args.text.now config old new) (IsFormFault (WithImages config.sections) options.format options.explain c.args.text.now config old new) c.check_in_form.result c.end.result
           (images_alone (λ _ _. Unit {0}) options.root config.sections (IsSoundWith options.format options.explain c.args.text.now config old new) c.check_in_form.result c.check_in_form.ensures.sound)
-          c.check_in_form.ensures.failed c.end.ensures.done c.end.ensures.failed,
+          (form_alone (λ _ _. Unit {0}) options.root options.format options.explain c.args.text.now config c.check_in_form.result old new c.check_in_form.ensures.failed) c.end.ensures.done c.end.ensures.failed,
     ))
 
 pub returns-in-Err : goal.returns-in-Err

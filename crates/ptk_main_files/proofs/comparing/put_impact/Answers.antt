@@ -1,6 +1,6 @@
 use Rattle.std.proofs.Common.{ℕ, List, Option, refl, subst, inl, inr}
 use Rattle.std.specs.Borrow.{Bor}
-use Rattle.ptk_main_tools.proofs.ReadFaults.{passed_on}
+use Rattle.ptk_words.proofs.Options.{passed_on}
 use Rattle.ptk_main_files.specs.Outcomes.{AreRead, IsImpactFault, WithReleasesRead}
 use Rattle.ptk_main_files.proofs.Outcomes.{released, unreleased}
 use Rattle.ptk_main_files.proofs.comparing.put_impact.Goals as goal

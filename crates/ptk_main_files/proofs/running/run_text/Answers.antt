@@ -1,6 +1,6 @@
 use Rattle.std.proofs.Common.{inl, inr, refl}
 use Rattle.ptk_main_files.specs.Outcomes.{IsRunFault, IsRunOf, WithImages}
-use Rattle.ptk_main_files.proofs.Outcomes.{ended, images_alone}
+use Rattle.ptk_main_files.proofs.Outcomes.{ended, images_alone, run_alone}
 use Rattle.ptk_main_files.proofs.running.run_text.Goals as goal
 
 pub returns-in-Ok : goal.returns-in-Ok
@@ -11,9 +11,9 @@ returns-in-Ok g c =
     inr (
       config,
       c.in-Ok.ensures.stated,
-      ended (WithImages config.sections (IsRunOf c.args.options config old new)) (IsRunFault c.args.options config old new) c.run_config.result c.end.result
+      ended (WithImages config.sections (IsRunOf c.args.options config old new)) (IsRunFault (WithImages config.sections) c.args.options config old new) c.run_config.result c.end.result
           (images_alone (λ _ _. Unit {0}) c.args.options.run.root config.sections (IsRunOf c.args.options config old new) c.run_config.result c.run_config.ensures.passed)
-          c.run_config.ensures.failed c.end.ensures.done c.end.ensures.failed,
+          (run_alone (λ _ _. Unit {0}) c.args.options.run.root c.args.options config c.run_config.result old new c.run_config.ensures.failed) c.end.ensures.done c.end.ensures.failed,
     )
 
 pub returns-in-Err : goal.returns-in-Err
