@@ -3,7 +3,7 @@
 //! What the tests of whole runs share: worked rows as data (a guest in assembly, what is seen of its run, its report),
 //! and what carries them out.
 //!
-//! Memory is ample there, so an answer that it ran out is one that fails. The functions promise nothing, and are
+//! Memory is ample there, so a body that returns out of memory fails. The functions promise nothing, and are
 //! between each row and the calls that it tests, so that a check does not compute the rows' runs. The modules
 //! `sources`, `plans` and `recordings` are data of `ptk_main_rows`: guests, rows of window plans, and guests whose runs
 //! are recorded. Below are the assembler (`ptk_asm`), whole runs and their system (`ptk_main_runs`), and the slot table

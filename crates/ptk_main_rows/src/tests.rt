@@ -1,6 +1,6 @@
 //! The worked rows: whole runs with their reports and traces. What is wanted was worked out by hand. Memory is ample
-//! here, so an answer that it is wanting fails too. A helper that promises nothing stands between each row and the
-//! calls that it tests, and answers whether the row holds: so the check neither computes the rows' runs nor follows an
+//! here, so a body that returns out of memory fails too. A helper that promises nothing is between each row and the
+//! calls that it tests, and returns whether the row holds: so the check neither computes the rows' runs nor follows an
 //! early return at each row.
 
 ghost use Rattle.std.specs.Prelude.{◌<◌, length};
@@ -549,17 +549,13 @@ fn counts_at(
     files: &Files,
     ticks: u64,
 ) -> Option<(usize, u64, u64)> {
-    match booted(alloc, config, files) {
-        Some(mut system) => {
-            run_on_to(&mut system, ticks);
-            Some((
-                parts_of(&system),
-                first_dropped(&system),
-                first_steps(&system),
-            ))
-        }
-        None => None,
-    }
+    let mut system = booted(alloc, config, files)?;
+    run_on_to(&mut system, ticks);
+    Some((
+        parts_of(&system),
+        first_dropped(&system),
+        first_steps(&system),
+    ))
 }
 
 #[test]

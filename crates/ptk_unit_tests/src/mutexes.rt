@@ -1,4 +1,4 @@
-//! Mutexes and condition variables from `build` on, without the gate: what each call asks, the calls before it left.
+//! Mutexes and condition variables from `build` on, without the gate: each call has what it requires from those before.
 
 ghost use Rattle.std.specs.Prelude.{◌≡◌, ◌<◌, ◌≤◌, length, All};
 

@@ -1,4 +1,4 @@
-//! What traces write after a boot with ample memory, and what they answer where the writer fails.
+//! What traces write after a boot with ample memory, and what they return where the writer fails.
 
 use ptk_gate_boot::{Memories, Trace};
 use ptk_words::{A0, Cpu, Entry, PartId, ThreadNo, Tick};

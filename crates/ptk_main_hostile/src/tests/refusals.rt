@@ -1,6 +1,6 @@
-//! Want of memory. Here it is ample, and each call succeeds at once; `hostile/refuse` runs these tests again with one
-//! allocation refused, each in turn. Then the call reports out of memory and nothing else, leaves what it was given,
-//! and succeeds as it is asked again. The tests ask for no memory besides.
+//! Out of memory. Here memory is ample, and each call succeeds at once; `hostile/refuse` runs these tests again with
+//! one allocation refused, each in turn. Then the call reports out of memory and nothing else, leaves what it was
+//! given, and succeeds as it is asked again. The tests ask for no memory besides.
 
 use ptk_asm::assemble;
 use ptk_config::{Config, read_config};

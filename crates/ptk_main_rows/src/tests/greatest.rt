@@ -1,4 +1,4 @@
-//! A system at the greatest limits, past 2^20 ticks. A body that answers out of memory, or a writer's error, only for
+//! A system at the greatest limits, past 2^20 ticks. A body that returns out of memory, or a writer's error, only for
 //! many sections, many windows, large pools or a long run meets every contract: this row sees it. What is wanted was
 //! worked out by hand.
 //!
