@@ -1,7 +1,6 @@
-//! The worked rows: whole runs with their reports and traces. What is wanted was worked out by hand. Memory is ample
-//! here, so a body that returns out of memory fails too. A helper that promises nothing is between each row and the
-//! calls that it tests, and returns whether the row holds: so the check neither computes the rows' runs nor follows an
-//! early return at each row.
+//! The worked rows: whole runs with their reports and traces, worked out by hand. Memory is ample here, so a body that
+//! returns out of memory fails too. A helper that promises nothing is between each row and the calls that it tests, and
+//! returns whether the row holds: so the check computes no run, and follows no early return at each row.
 
 ghost use Rattle.std.specs.Prelude.{◌<◌, length};
 

@@ -1,5 +1,4 @@
-//! Where a run ends: at any tick on the way, at a writer that fails, and at its faults. The helpers of the worked rows
-//! are used here too.
+//! Where a run ends: at any tick on the way, at a writer that fails, and at its faults.
 
 ghost use Rattle.std.specs.Prelude.{◌≤◌};
 

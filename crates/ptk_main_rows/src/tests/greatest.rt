@@ -1,6 +1,5 @@
-//! A system at the greatest limits, past 2^20 ticks. A body that returns out of memory, or a writer's error, only for
-//! many sections, many windows, large pools or a long run meets every contract: this row sees it. What is wanted was
-//! worked out by hand.
+//! A system at the greatest limits, past 2^20 ticks, worked out by hand. A body that returns out of memory, or a
+//! writer's error, only for many sections or windows, large pools or a long run meets every contract but this row.
 //!
 //! Frame 1000000, 64 windows: window k begins at 15625 * k and is of section k modulo 8. Those of `spin` are 1000 ticks
 //! long, those of `late` and `bare`, which are idle at each of their ticks, 16; the others go up to the next window.

@@ -1,5 +1,4 @@
-//! The data of pictures: worked rows as segments of recordings. What is wanted was worked out by hand from the costs of
-//! calls; the ticks stand beside the guests, which are in `ptk_main_guests`.
+//! The data of pictures: worked rows as segments of recordings, worked out by hand from the costs of calls.
 
 use super::segments::{Segment, does_sum_up, first_wrong_segment, recorded};
 use ptk_main_guests::recordings::{
