@@ -111,7 +111,7 @@ int main(void)
     functions();
     texts();
     newton();
-    expect_stack("the stack of printf with floating point", print, 544);
-    expect_stack("the stack of scanf with floating point", scan, 544);
+    expect_stack("the stack of printf with floating point", print, 576);
+    expect_stack("the stack of scanf with floating point", scan, 576);
     return tell();
 }
