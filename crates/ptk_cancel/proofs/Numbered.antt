@@ -3,7 +3,7 @@ use Rattle.std.proofs.Common.{◌≡◌, ℕ, ◌-◌, ◌<◌, List, length, ge
 use Rattle.std.specs.Prelude.{Bool, true, false, if◌then◌else◌, slice_set}
 use Rattle.std.proofs.lemmas.List.{set-get_or}
 use Rattle.ptk_words.specs.Pools.{pool_update}
-use Rattle.ptk_words_parted.proofs.Entries.{numbered_below, updated_at, updated_past, updated_to}
+use Rattle.ptk_words.proofs.Entries.{numbered_below, updated_at, updated_past, updated_to}
 
 pub ruleset numbers = (numbered_below, updated_at, updated_past)
 

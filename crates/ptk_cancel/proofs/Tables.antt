@@ -1,8 +1,8 @@
 -- The tables after a change of one partition, and those made for each section.
 use Rattle.std.proofs.lemmas.List.{length-map, length-set}
 use Rattle.ptk_words.proofs.Pools.{length-update}
-use Rattle.ptk_words_parted.proofs.Cuts.{lent-same, set_part-same}
-use Rattle.ptk_words_parted.proofs.Entries.{filled_per}
+use Rattle.ptk_words.proofs.Cuts.{lent-same, set_part-same}
+use Rattle.ptk_words.proofs.Entries.{filled_per}
 
 -- ---- lengths
 

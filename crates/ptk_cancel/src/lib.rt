@@ -12,7 +12,7 @@
 //! Room for 16 handlers a thread is made by `Cancellations::build` alone. Every call but the constructor is total in
 //! all but the partition: past the last thread number nothing is pending, there is no handler, and a change changes
 //! nothing. What else cancellation needs of a thread, its phase and its wait, is elsewhere. Below are `ptk_words`,
-//! `ptk_words_parted` and `ptk_words_model`; above, `ptk_gate_pools` has it as one of its pools. No clause is costly to
+//! `ptk_words` and `ptk_words_model`; above, `ptk_gate_pools` has it as one of its pools. No clause is costly to
 //! prove.
 
 mod entries;

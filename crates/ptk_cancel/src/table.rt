@@ -2,7 +2,7 @@
 
 ghost use Rattle.std.specs.Prelude.{◌≡◌, ◌<◌, ◌≤◌, true, false, [], ◌∷◌, drop, length, map, nat_lt, option_map, replicate, slice_get, unwrap_or, if◌then◌else◌, IfOk};
 ghost use Rattle.ptk_words.specs.Pools.{numbered};
-ghost use Rattle.ptk_words_parted.specs.Parts.{part_of};
+ghost use Rattle.ptk_words.specs.Parts.{part_of};
 ghost use Rattle.ptk_words_model.specs.State.{Part};
 ghost use Rattle.ptk_words_model.specs.ThreadCreation.{new_cancellation};
 ghost use Rattle.ptk_words_model.specs.Unwinding.{after_unwinding_move, cleanups_of};
@@ -11,9 +11,8 @@ ghost use Rattle.ptk_cancel.specs.KeptCancellations.{cancellation_at, cleanups_a
 use crate::entries::{self, entry_in, fresh};
 use crate::stack::Stack;
 use crate::stacks::{self, empty_stacks};
-use ptk_words::{CLEANUP_LIMIT, Cleanup, Limits, PartId, ThreadNo};
+use ptk_words::{CLEANUP_LIMIT, Cleanup, Limits, PartId, Parted, ThreadNo};
 use ptk_words_model::{Cancellation, thread_counts_of};
-use ptk_words_parted::Parted;
 use std::alloc::{AllocError, Global};
 use std::marker::Model;
 

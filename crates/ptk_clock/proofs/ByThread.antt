@@ -1,11 +1,11 @@
 -- The slots of all partitions, one partition's behind the other's, after a change of one partition's pairs.
-use Rattle.std.proofs.Common.{◌≡◌, ℕ, zero, suc, ◌+◌, ◌*◌, ◌-◌, ◌<◌, ◌≤◌, List, [], ◌∷◌, length, replicate, refl, sym, ◌∙◌, ap, subst, arith, Option, Some, None, inl, inr}
+use Rattle.std.proofs.Common.{◌≡◌, ℕ, zero, suc, ◌+◌, ◌*◌, ◌<◌, ◌≤◌, List, [], ◌∷◌, length, replicate, refl, sym, ◌∙◌, ap, subst, arith, Option, Some, None, inl, inr}
 use Rattle.std.proofs.Common.{take, drop, ◌++◌}
 use Rattle.std.specs.Prelude.{slice_get, slice_set, slice_index_or, map, All}
 use Rattle.std.proofs.Math.Seq.{take-append_seam}
 use Rattle.std.proofs.lemmas.Option.{none-some, same_Some}
 use Rattle.ptk_words.specs.Names.{Tick}
-use Rattle.ptk_words_parted.specs.Parts.{part_of, filled}
+use Rattle.ptk_words.specs.Parts.{part_of, filled}
 use Rattle.ptk_clock.specs.declared.threads.PartitionSlots.{PartitionSlots}
 use Rattle.ptk_clock.specs.Pairs.{Pair, DeadlineTable}
 use Rattle.ptk_clock.specs.BySlot.{deadlines_from}

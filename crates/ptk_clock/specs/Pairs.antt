@@ -1,5 +1,5 @@
 -- Deadlines of slots as pairs, in order.
-use Rattle.std.specs.Prelude.{◌≡◌, ⊤, ℕ, Bool, true, false, not, ◌&&◌, ◌||◌, ◌==◌, nat_lt, nat_le, List, [], ◌∷◌, filter, find, map, Option}
+use Rattle.std.specs.Prelude.{◌≡◌, ⊤, ℕ, Bool, true, false, not, ◌&&◌, ◌||◌, ◌==◌, nat_lt, nat_le, List, [], ◌∷◌, filter, find, map, Option, Some, None}
 use Rattle.ptk_words.specs.Names.{Tick}
 use Rattle.ptk_words_sync_invariant.specs.Withdrawal.{in_order_with}
 
@@ -41,6 +41,11 @@ with_pair a pairs = in_order_with is_before a pairs
 -- the pairs without that of a slot
 abbrev pub without_slot : ℕ → List Pair → List Pair
 without_slot slot pairs = filter (λ pair. not (pair.1 == slot)) pairs
+
+-- the pairs without the one that was taken, if one was
+abbrev pub without_taken : Option Pair → List Pair → List Pair
+without_taken None pairs = pairs
+without_taken (Some pair) pairs = without_slot pair.1 pairs
 
 -- the pair is of a slot from the first to the last
 abbrev pub is_among : ℕ → ℕ → Pair → Bool

@@ -4,7 +4,7 @@ ghost use Rattle.std.specs.Prelude.{◌≡◌, ℕ, ◌+◌, ◌<◌, false, Lis
 ghost use Rattle.ptk_words.specs.Pools.{is_in};
 ghost use Rattle.ptk_words_sync_invariant.specs.Expiries.{next_expiry};
 ghost use Rattle.ptk_clock.specs.BySlot.{deadlines_from, expiry_from};
-ghost use Rattle.ptk_clock.specs.Pairs.{Pair, slots_of, with_pair, without_slot, is_due, is_among, least_due, least_among, IsLeast};
+ghost use Rattle.ptk_clock.specs.Pairs.{Pair, slots_of, with_pair, without_slot, without_taken, is_due, is_among, least_due, least_among, IsLeast};
 
 use ptk_words::{SlotNo, Tick};
 
@@ -34,6 +34,16 @@ pub trait Deadlines {
         ensures due { result ≡ least_due first last now (pairs self.now) }
         ensures least { IfSome result (IsLeast (is_due first last now) (pairs self.now)) }
         ensures next { (n : ℕ) → last + 1 ≡ first + n → option_map (expiry_from first) result ≡ next_expiry now (deadlines_from first n (pairs self.now)) };
+
+    /// Takes out the least pair among the slots from the first to the last whose deadline is at most now, and returns
+    /// it. `None` if none is due; then nothing changes. If the slots are those of a partition's n threads, it is their
+    /// next expiry.
+    fn take_due(&mut self, first: SlotNo, last: SlotNo, now: Tick) -> Option<(Tick, SlotNo)>
+        ensures due { result ≡ least_due first last now (pairs self.old) }
+        ensures pairs { pairs self.new ≡ without_taken result (pairs self.old) }
+        ensures slots { slots self.new ≡ slots self.old }
+        ensures least { IfSome result (IsLeast (is_due first last now) (pairs self.old)) }
+        ensures next { (n : ℕ) → last + 1 ≡ first + n → option_map (expiry_from first) result ≡ next_expiry now (deadlines_from first n (pairs self.old)) };
 
     /// The least deadline among the slots from the first to the last, None where none of them has one.
     fn least(&self, first: SlotNo, last: SlotNo) -> Option<Tick>

@@ -53,6 +53,12 @@ impl Deadlines for PlainDeadlines {
         first_due(self.queue.pairs(), first, last, now)
     }
 
+    fn take_due(&mut self, first: SlotNo, last: SlotNo, now: Tick) -> Option<(Tick, SlotNo)> {
+        let taken = self.due(first, last, now)?;
+        self.queue.remove(taken.1);
+        Some(taken)
+    }
+
     fn least(&self, first: SlotNo, last: SlotNo) -> Option<Tick> {
         let pair = least_among(self.queue.pairs(), first, last)?;
         Some(pair.0)

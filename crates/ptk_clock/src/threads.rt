@@ -2,7 +2,7 @@
 
 ghost use Rattle.std.specs.Prelude.{◌≡◌, ℕ, ◌+◌, ◌-◌, ◌<◌, ◌≤◌, List, [], length, map, All, IfOk, Some, None, option_map, slice_get, slice_set, suc};
 ghost use Rattle.ptk_words.specs.Pools.{pool_set};
-ghost use Rattle.ptk_words_parted.specs.Parts.{part_of, filled};
+ghost use Rattle.ptk_words.specs.Parts.{part_of, filled};
 ghost use Rattle.ptk_words_sync_invariant.specs.Expiries.{next_expiry};
 ghost use Rattle.ptk_clock.specs.BySlot.{deadlines_from};
 ghost use Rattle.ptk_clock.specs.ByThread.{least_deadline, is_reached, first_slot, laid_from, end_from, AreLaid, AreThreadDeadlines, IsElsewhereSame, with_least};

@@ -5,8 +5,8 @@ use Rattle.std.proofs.Math.ListN.{set}
 use Rattle.std.proofs.lemmas.List.{length-set}
 use Rattle.ptk_words.specs.Pools.{pool_get, pool_set, is_in, least_free}
 use Rattle.ptk_words.proofs.Pools.{least_free_none}
-use Rattle.ptk_words_parted.specs.Parts.{part_of}
-use Rattle.ptk_words_parted.proofs.Cuts.{set_part-same}
+use Rattle.ptk_words.specs.Parts.{part_of}
+use Rattle.ptk_words.proofs.Cuts.{set_part-same}
 use Rattle.ptk_words_model.specs.State.{Condition, Mutex}
 use Rattle.ptk_words_model.specs.Condition.{waiters_on}
 use Rattle.ptk_threads.specs.Table.{ThreadTable}

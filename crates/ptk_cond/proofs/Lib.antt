@@ -5,10 +5,15 @@ pub mod Steps
 pub mod Fresh
 pub mod Asleep
 pub mod Visited
+pub mod Woken
 pub use Rattle.ptk_mutex.proofs.Apart
 pub use Rattle.ptk_mutex.proofs.Locked
 pub use Rattle.ptk_mutex.proofs.Moved
 pub use Rattle.ptk_mutex.proofs.Raised
 pub use Rattle.ptk_mutex.proofs.Sound
 pub use Rattle.ptk_mutex.proofs.Steps as LockSteps
+pub use Rattle.ptk_mutex.proofs.WokenMoves
+pub use Rattle.ptk_mutex.proofs.WokenSets
 pub use Rattle.ptk_mutex.proofs.Ready
+pub mod Priorities
+pub mod TimedOut

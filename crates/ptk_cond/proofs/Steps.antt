@@ -6,8 +6,8 @@ use Rattle.std.proofs.Math.ListN.{set}
 use Rattle.std.proofs.lemmas.List.{length-set, set-set, set-get_or}
 use Rattle.ptk_words.specs.Pools.{pool_get, pool_set, is_in, without, first_of_greatest}
 use Rattle.ptk_words.proofs.Pools.{changed_own, changed_twice}
-use Rattle.ptk_words_parted.specs.Parts.{part_of}
-use Rattle.ptk_words_parted.proofs.Cuts.{set_part-same}
+use Rattle.ptk_words.specs.Parts.{part_of}
+use Rattle.ptk_words.proofs.Cuts.{set_part-same}
 use Rattle.ptk_words_model.specs.State.{Condition, Locks, Mutex, Syncs}
 use Rattle.ptk_words.specs.declared.threads.Thread.{Thread}
 use Rattle.ptk_words.specs.declared.threads.Wait.{Wait}
@@ -21,9 +21,9 @@ use Rattle.ptk_words_model.specs.Mutex.{wait_of, is_waiting, after_unlock, after
 use Rattle.ptk_words_model.specs.Condition.{condition_waiters, mutex_of_condition_wait, after_condition_wait, after_unblock_for, after_signal, waiters_on}
 use Rattle.ptk_words_sync_invariant.specs.Conditions.{HasRoom, IsNoWaiter}
 use Rattle.ptk_words_sync_invariant.proofs.Gathered.{waiter_used}
-use Rattle.ptk_threads_slots.specs.Changes.{few_of}
-use Rattle.ptk_threads_slots.specs.declared.thread_list.Members.{Members}
-use Rattle.ptk_threads_slots.specs.declared.thread_list.Members.TheVariants.{NoMember, OnlyMember}
+use Rattle.ptk_threads.specs.LinkChanges.{few_of}
+use Rattle.ptk_threads.specs.declared.thread_list.Members.{Members}
+use Rattle.ptk_threads.specs.declared.thread_list.Members.TheVariants.{NoMember, OnlyMember}
 use Rattle.ptk_threads.specs.Table.{ThreadTable, thread_in, stored_of, with_changed, with_wait}
 use Rattle.ptk_threads.proofs.Pools.{part_of-set}
 use Rattle.ptk_mutex.specs.SyncRosters.{Rostered}

@@ -3,21 +3,13 @@
 ghost use Rattle.std.specs.Prelude.{◌≡◌, ◌<◌, [], Some, None, length, slice_set, if◌then◌else◌};
 ghost use Rattle.std.specs.Option.{is_some};
 ghost use Rattle.ptk_words.specs.Pools.{least_free, pool_get, pool_set};
-ghost use Rattle.ptk_words_parted.specs.Parts.{part_of};
+ghost use Rattle.ptk_words.specs.Parts.{part_of};
 ghost use Rattle.ptk_words_model.specs.Condition.{waiters_on};
 ghost use Rattle.ptk_mutex.specs.Sound.{AreSynced, IsSound};
 ghost use Rattle.ptk_cond.specs.Pool.{with_new_condition};
 
 use ptk_mutex::Roster;
 use ptk_words::{ConditionNo, PartId};
-
-/// Whether the number names a condition variable.
-pub fn is_there(roster: &Roster, p: PartId, c: ConditionNo) -> bool
-    requires { p < length roster.now.table.threads }
-    ensures { result ≡ is_some (pool_get (part_of roster.now.conditions p) c) }
-{
-    roster.is_condition(p, c)
-}
 
 /// The condition variable in use whose number the word is; None of another word (own choice).
 #[tactic(auto, using(crate::proofs::Numbers::numbers))]

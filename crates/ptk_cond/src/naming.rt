@@ -3,11 +3,11 @@
 ghost use Rattle.std.specs.Prelude.{◌≡◌, ◌<◌, [], length, not};
 ghost use Rattle.std.specs.List.{list_any};
 ghost use Rattle.ptk_words.specs.Pools.{pool_get};
-ghost use Rattle.ptk_words_parted.specs.Parts.{part_of};
+ghost use Rattle.ptk_words.specs.Parts.{part_of};
 ghost use Rattle.ptk_words_model.specs.State.{locks_of};
 ghost use Rattle.ptk_words_model.specs.Mutex.{wait_of};
 ghost use Rattle.ptk_words_model.specs.Condition.{mutex_of_condition_wait, is_named, names_mutex, names_another};
-ghost use Rattle.ptk_threads_slots.specs.Links.{threads_of};
+ghost use Rattle.ptk_threads.specs.Links.{threads_of};
 ghost use Rattle.ptk_cond.specs.Tables.{syncs_of};
 
 use ptk_mutex::{Roster, is_named, thread_slot};

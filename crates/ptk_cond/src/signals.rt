@@ -2,12 +2,13 @@
 
 ghost use Rattle.std.specs.Prelude.{◌≡◌, ◌<◌, true, Some, None, IsSome, length};
 ghost use Rattle.ptk_words.specs.Pools.{is_in};
-ghost use Rattle.ptk_words_parted.specs.Parts.{part_of};
+ghost use Rattle.ptk_words.specs.Parts.{part_of};
 ghost use Rattle.ptk_words_model.specs.Mutex.{wait_of};
 ghost use Rattle.ptk_words_model.specs.Priority.{thread_at};
 ghost use Rattle.ptk_words_model.specs.Condition.{condition_waiters, mutex_of_condition_wait, after_unblock, after_unblock_for, after_signal, after_signal_to, after_broadcast};
 ghost use Rattle.ptk_mutex.specs.Visits.{IsVisited};
 ghost use Rattle.ptk_mutex.specs.Sound.{IsSound};
+ghost use Rattle.ptk_mutex.specs.Woken.{woken_at};
 ghost use Rattle.ptk_cond.specs.Tables.{syncs_at, put_syncs, AreSynced, MayLeave, next_waiter};
 ghost use Rattle.ptk_cond.specs.Visits.{IsVisitedBySignal};
 
@@ -17,11 +18,13 @@ use ptk_threads::Members;
 use ptk_words::{ConditionNo, MutexNo, PartId, ThreadNo};
 
 /// The waiter of greatest effective priority, the earliest among equals, is unblocked: it re-locks the mutex that it
-/// named, with reply 0 (pthread_cond_signal). Nothing changes without waiters.
+/// named, with reply 0 (pthread_cond_signal). Nothing changes without waiters. Returns the set of threads woken, as 32
+/// bits: bit k - 1 is thread k. A waiter that has to wait for its mutex is not woken.
 #[inline(always)]
 #[tactic(auto, using(crate::proofs::Steps::steps))]
-pub fn signal(roster: &mut Roster, mutexes: &mut Mutexes, p: PartId, c: ConditionNo)
+pub fn signal(roster: &mut Roster, mutexes: &mut Mutexes, p: PartId, c: ConditionNo) -> u32
     requires ready { AreSynced p roster.old }
+    ensures woken { result ≡ woken_at p roster.old roster.new }
     ensures roster { roster.new ≡ put_syncs p (after_signal c (syncs_at p roster.old)) roster.old }
     ensures visited { IsSome (next_waiter c (syncs_at p roster.old)) → IsVisited mutexes.new.visited (part_of roster.old.table.stored p) (part_of roster.new.table.stored p) }
     ensures unvisited { next_waiter c (syncs_at p roster.old) ≡ None → mutexes.new ≡ mutexes.old }
@@ -29,13 +32,14 @@ pub fn signal(roster: &mut Roster, mutexes: &mut Mutexes, p: PartId, c: Conditio
     ensures sound { IsSound roster.old → IsSound roster.new }
 {
     let next = choose(roster, p, c);
-    signal_to(roster, mutexes, p, c, next);
+    signal_to(roster, mutexes, p, c, next)
 }
 
 /// Every waiter is unblocked, one after the other, each choice in the state that the one before left
-/// (pthread_cond_broadcast).
-pub fn broadcast(roster: &mut Roster, mutexes: &mut Mutexes, p: PartId, c: ConditionNo)
+/// (pthread_cond_broadcast). Returns the set of threads woken, as 32 bits: bit k - 1 is thread k.
+pub fn broadcast(roster: &mut Roster, mutexes: &mut Mutexes, p: PartId, c: ConditionNo) -> u32
     requires ready { AreSynced p roster.old }
+    ensures woken { result ≡ woken_at p roster.old roster.new }
     ensures roster { roster.new ≡ put_syncs p (after_broadcast c (syncs_at p roster.old)) roster.old }
     ensures visited { 0 < length (condition_waiters (syncs_at p roster.old) c) → IsVisitedBySignal mutexes.new.visited (length (condition_waiters (syncs_at p roster.old) c)) c (syncs_at p roster.old) }
     ensures unvisited { length (condition_waiters (syncs_at p roster.old) c) ≡ 0 → mutexes.new ≡ mutexes.old }
@@ -44,13 +48,16 @@ pub fn broadcast(roster: &mut Roster, mutexes: &mut Mutexes, p: PartId, c: Condi
 {
     let waiters = roster.condition_waiters(p, c);
     let count = waiters.as_slice().len();
+    let mut woken = 0;
     for i in 0..count {
-        signal(roster, mutexes, p, c);
+        woken |= signal(roster, mutexes, p, c);
     }
+    woken
 }
 
 /// A waiter leaves the condition variable and re-locks the mutex that it named, with this reply if there is one, as at
-/// its deadline or at a cancellation (pthread_cond_timedwait; XSH 2.9.5).
+/// its deadline or at a cancellation (pthread_cond_timedwait; XSH 2.9.5). Returns the set of threads woken, as 32 bits:
+/// the waiter, or nobody if it has to wait for the mutex.
 #[inline(always)]
 #[tactic(auto, using(crate::proofs::Waits::waits))]
 pub fn withdraw(
@@ -60,16 +67,17 @@ pub fn withdraw(
     t: ThreadNo,
     c: ConditionNo,
     reply: Option<u32>,
-)
+) -> u32
     requires ready { AreSynced p roster.old }
     requires waiter { is_in t (condition_waiters (syncs_at p roster.old) c) ≡ true }
+    ensures woken { result ≡ woken_at p roster.old roster.new }
     ensures roster { roster.new ≡ put_syncs p (after_unblock t c reply (syncs_at p roster.old)) roster.old }
     ensures visited { IsVisited mutexes.new.visited (part_of roster.old.table.stored p) (part_of roster.new.table.stored p) }
     ensures ready { AreSynced p roster.new }
     ensures sound { IsSound roster.old → IsSound roster.new }
 {
     let named = mutex_of_condition_wait(roster.threads().wait(p, t));
-    unblock(roster, mutexes, p, t, c, reply, named);
+    unblock(roster, mutexes, p, t, c, reply, named)
 }
 
 /// A waiter leaves the condition variable and re-locks the mutex, which is the one that it named.
@@ -83,10 +91,11 @@ fn unblock(
     c: ConditionNo,
     reply: Option<u32>,
     named: Option<MutexNo>,
-)
+) -> u32
     requires ready { AreSynced p roster.old }
     requires waiter { is_in t (condition_waiters (syncs_at p roster.old) c) ≡ true }
     requires named { named ≡ mutex_of_condition_wait (wait_of (thread_at (syncs_at p roster.old).locks t)) }
+    ensures woken { result ≡ woken_at p roster.old roster.new }
     ensures roster { roster.new ≡ put_syncs p (after_unblock_for t c reply named (syncs_at p roster.old)) roster.old }
     ensures visited { IsVisited mutexes.new.visited (part_of roster.old.table.stored p) (part_of roster.new.table.stored p) }
     ensures ready { AreSynced p roster.new }
@@ -95,10 +104,13 @@ fn unblock(
     if let Some(m) = named {
         if relock_move(roster, p, t, m).is_waiting() {
             mutexes.pass_on(roster, p, t, c, m, reply);
+            0
         } else {
             roster.leave_condition(p, c, t);
-            mutexes.relock(roster, p, t, m, reply);
+            mutexes.relock(roster, p, t, m, reply).woken
         }
+    } else {
+        0
     }
 }
 
@@ -111,9 +123,10 @@ fn signal_to(
     p: PartId,
     c: ConditionNo,
     next: Option<ThreadNo>,
-)
+) -> u32
     requires ready { AreSynced p roster.old }
     requires may { MayLeave next (syncs_at p roster.old) c }
+    ensures woken { result ≡ woken_at p roster.old roster.new }
     ensures roster { roster.new ≡ put_syncs p (after_signal_to next c (syncs_at p roster.old)) roster.old }
     ensures visited { IsSome next → IsVisited mutexes.new.visited (part_of roster.old.table.stored p) (part_of roster.new.table.stored p) }
     ensures unvisited { next ≡ None → mutexes.new ≡ mutexes.old }
@@ -122,7 +135,7 @@ fn signal_to(
 {
     match next {
         Some(t) => withdraw(roster, mutexes, p, t, c, Some(0)),
-        None => {}
+        None => 0,
     }
 }
 

@@ -5,7 +5,7 @@ use Rattle.std.specs.Str.{bytes_eq}
 use Rattle.std.proofs.lemmas.List.{map-set, get_or-map, set-get_or, length-set}
 use Rattle.std.proofs.lemmas.List.Elements.{All-set, All-get_or}
 use Rattle.ptk_words.specs.Ranges.{IsWithinLimits, IsInput}
-use Rattle.ptk_words_windows.specs.WindowFaults.{some_pair}
+use Rattle.ptk_words_model.specs.WindowFaults.{some_pair}
 use Rattle.ptk_config.specs.Sections.{Section, AreInRange, no_section, with_trace, with_trace_at}
 use Rattle.ptk_config.specs.Configuration.{Configuration, IsConfiguration, any_doubled}
 

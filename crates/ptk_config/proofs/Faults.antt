@@ -3,9 +3,9 @@ use Rattle.std.proofs.Common.{ok_or, ◌≡◌, ◌≢◌, ◌∙◌, refl, ℕ,
 use Rattle.std.specs.Prelude.{codes, length, IfErr}
 use Rattle.ptk_words.specs.declared.TheConstants.{LAST_TICK}
 use Rattle.toml.specs.Data.{Data, Items, no_items, item, Members, as_integer, as_str, as_array, as_table, get_member}
-use Rattle.ptk_words_windows.specs.declared.fault.WindowFault.{WindowFault}
-use Rattle.ptk_words_windows.specs.declared.fault.WindowFault.TheVariants.{OutOfOrder}
-use Rattle.ptk_words_windows.specs.WindowFaults.{plan_fault}
+use Rattle.ptk_words_model.specs.declared.fault.WindowFault.{WindowFault}
+use Rattle.ptk_words_model.specs.declared.fault.WindowFault.TheVariants.{OutOfOrder}
+use Rattle.ptk_words_model.specs.WindowFaults.{plan_fault}
 use Rattle.ptk_config.specs.declared.fault.ConfigFault.{ConfigFault}
 use Rattle.ptk_config.specs.declared.fault.ConfigFault.TheVariants.{Text, MissingKey, WrongType, OutOfRange, UnknownKey, DoubledName, Window, Memory}
 use Rattle.ptk_config.specs.Reading.{Checked, MemoryAside, ◌>>=◌, tested, within, integer, text, items, members, required, number, counted, array, each_after, only}

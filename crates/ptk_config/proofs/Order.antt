@@ -6,11 +6,11 @@ use Rattle.std.proofs.lemmas.Bool.{or_from, and_from, and_parts, leb-true, not_f
 use Rattle.std.proofs.lemmas.List.Folds.{list_any_none}
 use Rattle.std.proofs.lemmas.List.Elements.{All-weaker}
 use Rattle.std.proofs.lemmas.List.Kept.{AllPairs-cons}
-use Rattle.ptk_words_windows.specs.declared.fault.WindowFault.{WindowFault}
-use Rattle.ptk_words_windows.specs.declared.fault.WindowFault.TheVariants.{Empty, Short, Overlap, PastFrame, UnknownPartition, Memory, OutOfOrder}
-use Rattle.ptk_words_windows.specs.declared.window.Window.{Window}
-use Rattle.ptk_words_windows.specs.Windows.{Stage}
-use Rattle.ptk_words_windows.specs.WindowFaults.{some_pair, first_fault, fault_of, window_fault, begins_with_zero, is_not_later, is_ordered, plan_fault}
+use Rattle.ptk_words_model.specs.declared.fault.WindowFault.{WindowFault}
+use Rattle.ptk_words_model.specs.declared.fault.WindowFault.TheVariants.{Empty, Short, Overlap, PastFrame, UnknownPartition, Memory, OutOfOrder}
+use Rattle.ptk_words_model.specs.declared.window.Window.{Window}
+use Rattle.ptk_words_model.specs.Windows.{Stage}
+use Rattle.ptk_words_model.specs.WindowFaults.{some_pair, first_fault, fault_of, window_fault, begins_with_zero, is_not_later, is_ordered, plan_fault}
 use Rattle.toml.specs.Data.{Data, Items, no_items, item, Members, as_integer}
 use Rattle.ptk_config.specs.declared.fault.ConfigFault.{ConfigFault}
 use Rattle.ptk_config.specs.declared.fault.ConfigFault.TheVariants.{WrongType, OutOfRange, UnknownKey}

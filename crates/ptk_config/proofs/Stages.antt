@@ -4,8 +4,8 @@ use Rattle.std.specs.Prelude.{fold, All, AllPairs}
 use Rattle.std.proofs.lemmas.List.{take_more, map-append, get_or-map, length-map}
 use Rattle.std.proofs.lemmas.List.Elements.{All-nil, All-cons, All-weaker, All-push}
 use Rattle.std.proofs.lemmas.List.Quantifiers.{all_pairs_push}
-use Rattle.ptk_words_windows.specs.declared.window.Window.{Window}
-use Rattle.ptk_words_windows.specs.Windows.{Stage}
+use Rattle.ptk_words_model.specs.declared.window.Window.{Window}
+use Rattle.ptk_words_model.specs.Windows.{Stage}
 use Rattle.ptk_config.specs.Windows.{last_from, AreLater}
 use Rattle.ptk_config.proofs.Walks.{each_after-more, each_after-fault, each_after-end}
 

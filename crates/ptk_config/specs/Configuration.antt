@@ -3,9 +3,9 @@ use Rattle.std.specs.Prelude.{ok_or, ℕ, ◌≡◌, ◌≤◌, Bool, false, Lis
 use Rattle.std.specs.Str.{bytes_eq}
 use Rattle.toml.specs.Data.{Members, get_member}
 use Rattle.toml.specs.Parse.{parse_document}
-use Rattle.ptk_words_windows.specs.declared.fault.WindowFault.{WindowFault}
-use Rattle.ptk_words_windows.specs.WindowFaults.{some_pair, plan_fault}
-use Rattle.ptk_words_windows.specs.Windows.{WindowPlan}
+use Rattle.ptk_words_model.specs.declared.fault.WindowFault.{WindowFault}
+use Rattle.ptk_words_model.specs.WindowFaults.{some_pair, plan_fault}
+use Rattle.ptk_words_model.specs.Windows.{WindowPlan}
 use Rattle.ptk_config.specs.declared.fault.ConfigFault.TheVariants as fault
 use Rattle.ptk_config.specs.Reading.{Checked, ◌>>=◌, tested, number, array, only}
 use Rattle.ptk_config.specs.Sections.{Section, AreInRange, sections_in}

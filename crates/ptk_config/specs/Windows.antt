@@ -2,8 +2,8 @@
 use Rattle.std.specs.Prelude.{ℕ, ◌+◌, ◌<◌, ◌≤◌, List, [], ◌∷◌, codes, length, position, fold, Option, Some, None, Ok, unwrap_or, All, AllPairs}
 use Rattle.std.specs.Str.{bytes_eq}
 use Rattle.toml.specs.Data.{Data, Items}
-use Rattle.ptk_words_windows.specs.declared.window.Window.{Window}
-use Rattle.ptk_words_windows.specs.Windows.{Stage}
+use Rattle.ptk_words_model.specs.declared.window.Window.{Window}
+use Rattle.ptk_words_model.specs.Windows.{Stage}
 use Rattle.ptk_config.specs.Reading.{Checked, ◌>>=◌, text, items, members, required, number, counted, array, each_after, only}
 use Rattle.ptk_config.specs.Sections.{Section}
 

@@ -1,13 +1,15 @@
 //! A whole document.
 
 use crate::fault::ConfigFault;
+use crate::place::{Key, Place, Refusal, TablePlace};
 use crate::reading::{are_known, array, number};
 use crate::section::{Section, read_section};
 use crate::stage::{Stage, read_later_stages};
 use crate::window::{WINDOWS_TO, read_windows};
+use crate::window_place::plan_place;
 use ptk_window::WindowPlan;
 use ptk_words::PartId;
-use ptk_words_windows::{Window, WindowFault};
+use ptk_words_model::{Window, WindowFault};
 use std::alloc::{AllocError, Global};
 use std::marker::Model;
 use toml::{Table, Value};
@@ -44,8 +46,9 @@ impl Model for Config {
     ghost invariant = { λ a. IsConfiguration (record { sections = a.sections.items; plan = a.plan }) };
 }
 
-ghost use Rattle.std.specs.Prelude.{◌≡◌, ◌≤◌, ◌<◌, ◌≢◌, Ok, Err, None, IfOk, IfErr, All, ◌∷◌, ◌^◌, length, map, vec_len};
+ghost use Rattle.std.specs.Prelude.{◌≡◌, ◌≤◌, ◌<◌, ◌≢◌, Ok, Err, None, IfOk, IfErr, IfSome, is_some, All, ◌∷◌, ◌^◌, length, map, option_map, vec_len};
 ghost use Rattle.std.specs.List.{list_any};
+ghost use Rattle.std.specs.Result.{result_err};
 ghost use Rattle.std.specs.Str.{bytes_eq};
 ghost use Rattle.toml.specs.Parse.{parse_document};
 ghost use Rattle.toml.specs.View.{table_view, items_view};
@@ -104,43 +107,49 @@ impl Config {
     }
 }
 
-/// The sections that the values state.
+/// The sections that the values state. At a fault the place is that of the fault.
 #[tactic(auto, using(crate::proofs::Sections::sections), unfolding(crate::specs::Sections::sections_in))]
-pub fn read_sections(alloc: Global, values: &[Value]) -> Result<Vec<Section>, ConfigFault>
+fn read_sections(
+    alloc: Global,
+    values: &[Value],
+    place: &mut Place,
+) -> Result<Vec<Section>, ConfigFault>
     ensures value { MemoryAside (λ v. v.items) result (sections_in (items_view values.now)) }
     ensures count { IfOk result (λ v. vec_len v ≡ length values.now) }
     ensures ranges { IfOk result (λ v. AreInRange v.items) }
 {
     let mut sections = Vec::new(alloc);
     for value in values {
-        sections.push(read_section(alloc, value)?)?;
+        let number = sections.len() + 1;
+        sections.push(read_section(alloc, number, value, place)?)?;
     }
     Ok(sections)
 }
 
 /// Whether one of these has the section's name.
-pub fn shares_name(section: &Section, others: &[Section]) -> bool
+pub(crate) fn shares_name(section: &Section, others: &[Section]) -> bool
     ensures { result ≡ list_any (λ u. bytes_eq section.now.name u.name) others.now }
 {
     others.iter().any(|other| section.has_name(other.name()))
 }
 
-/// Whether two sections have one name.
+/// The place, from 0, of the first section whose name a later one has.
 #[tactic(auto, using(ptk_window::proofs::Pairs::pairs), unfolding(crate::specs::Configuration::any_doubled))]
-pub fn any_doubled(sections: &[Section]) -> bool
-    ensures { result ≡ any_doubled sections.now }
+fn first_doubled(sections: &[Section]) -> Option<usize>
+    ensures value { is_some result ≡ any_doubled sections.now }
+    ensures within { IfSome result (λ index. index < length sections.now) }
 {
     for (index, section) in sections.iter().enumerate() {
         if shares_name(section, &sections[index + 1..]) {
-            return true;
+            return Some(index);
         }
     }
-    false
+    None
 }
 
 /// The top windows from frame 0 on, and those of each later stage from its frame on.
 #[tactic(auto, using(crate::proofs::Stages::given))]
-pub fn stages_given<'a>(
+fn stages_given<'a>(
     alloc: Global,
     windows: &'a [Window],
     later: &'a [Stage],
@@ -158,41 +167,77 @@ pub fn stages_given<'a>(
     Ok(stages)
 }
 
-/// What a document's table states.
-fn read_table(alloc: Global, table: &Table) -> Result<Config, ConfigFault>
+/// What a document's table states. At a fault the place is that of the fault.
+fn read_table(alloc: Global, table: &Table, place: &mut Place) -> Result<Config, ConfigFault>
     ensures { MemoryAside (λ a. a) result (configuration (table_view table.now)) }
 {
+    let top = TablePlace::Top;
+    *place = Place::Key(top, Key::Frame);
     let frame = number(table, "frame", FRAME_FROM, FRAME_TO)?;
+    *place = Place::Key(top, Key::Partition);
     let values = array(table, "partition", 1, PARTITIONS_TO)?;
-    let sections = read_sections(alloc, values)?;
+    let sections = read_sections(alloc, values, place)?;
+    *place = Place::Key(top, Key::Window);
     let values = array(table, "window", 0, WINDOWS_TO)?;
-    let windows = read_windows(alloc, values, &sections)?;
-    let later = read_later_stages(alloc, table, &sections)?;
+    let windows = read_windows(alloc, None, values, &sections, place)?;
+    let later = read_later_stages(alloc, table, &sections, place)?;
+    *place = Place::Table(top);
     if !are_known(table, &["frame", "partition", "window", "plan"]) {
         return Err(ConfigFault::UnknownKey);
     }
-    if any_doubled(&sections) {
+    if let Some(index) = first_doubled(&sections) {
+        *place = Place::Key(TablePlace::Section(index + 1), Key::Name);
         return Err(ConfigFault::DoubledName);
     }
     let stages = stages_given(alloc, &windows, &later)?;
     match WindowPlan::new(alloc, frame as u32, sections.len(), &stages) {
         Ok(plan) => Ok(Config { sections, plan }),
         Err(WindowFault::Memory) => Err(ConfigFault::Memory),
-        Err(fault) => Err(ConfigFault::Window(fault)),
+        Err(fault) => {
+            *place = plan_place(frame as u32, sections.len(), &stages);
+            Err(ConfigFault::Window(fault))
+        }
     }
 }
 
-/// Reads a configuration, a TOML document. Returns the first fault in the order of the checks, from a text that is no
-/// document to a fault of the windows; `ConfigFault::Memory` comes only where memory was refused.
-pub fn read_config(alloc: Global, text: &str) -> Result<Config, ConfigFault>
+/// What a text states. At a fault the place is that of the fault.
+fn read_text(alloc: Global, text: &str, place: &mut Place) -> Result<Config, ConfigFault>
     ensures values { IfOk result (λ config. configuration_in text.now ≡ Ok config) }
     ensures refused { IfErr result (λ fault. fault ≢ ConfigFault.Memory → configuration_in text.now ≡ Err fault) }
     ensures text { IfErr result (λ fault. fault ≡ ConfigFault.Text → parse_document text.now ≡ None) }
     ensures order { IfErr result (λ fault. fault ≢ ConfigFault.Window WindowFault.OutOfOrder) }
 {
     match toml::table_from_str(alloc, text) {
-        Ok(table) => read_table(alloc, &table),
+        Ok(table) => read_table(alloc, &table, place),
         Err(error) if error.is_memory() => Err(ConfigFault::Memory),
-        Err(_) => Err(ConfigFault::Text),
+        Err(_) => {
+            *place = Place::Text;
+            Err(ConfigFault::Text)
+        }
+    }
+}
+
+/// Reads a configuration, a TOML document. Returns the first fault in the order of the checks, from a text that is no
+/// document to a fault of the windows; `ConfigFault::Memory` comes only if memory was refused.
+pub fn read_config(alloc: Global, text: &str) -> Result<Config, ConfigFault>
+    ensures values { IfOk result (λ config. configuration_in text.now ≡ Ok config) }
+    ensures refused { IfErr result (λ fault. fault ≢ ConfigFault.Memory → configuration_in text.now ≡ Err fault) }
+    ensures text { IfErr result (λ fault. fault ≡ ConfigFault.Text → parse_document text.now ≡ None) }
+    ensures order { IfErr result (λ fault. fault ≢ ConfigFault.Window WindowFault.OutOfOrder) }
+{
+    let mut place = Place::Text;
+    read_text(alloc, text, &mut place)
+}
+
+/// The first fault of a configuration with its place, None if the text is accepted. An error if memory was refused.
+pub fn first_refusal(alloc: Global, text: &str) -> Result<Option<Refusal>, AllocError>
+    ensures fault { IfOk result
+        (λ found. option_map (λ r. r.fault) found ≡ result_err (configuration_in text.now)) }
+{
+    let mut place = Place::Text;
+    match read_text(alloc, text, &mut place) {
+        Ok(_config) => Ok(None),
+        Err(ConfigFault::Memory) => Err(AllocError),
+        Err(fault) => Ok(Some(Refusal { place, fault })),
     }
 }

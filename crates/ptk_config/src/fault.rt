@@ -4,7 +4,7 @@ ghost use Rattle.std.specs.Prelude.{◌≡◌};
 ghost use Rattle.ptk_config.specs.declared.fault.ConfigFault.TheVariants.{Memory};
 ghost use Rattle.ptk_config.specs.FaultNumbers.{config_fault_number};
 
-use ptk_words_windows::WindowFault;
+use ptk_words_model::WindowFault;
 use std::alloc::{AllocError, AllocFailed};
 use thiserror::Error;
 

@@ -9,6 +9,7 @@ ghost use Rattle.ptk_words.specs.declared.TheConstants.{LAST_TICK};
 ghost use Rattle.ptk_config.specs.Inputs.{bytes_in, input, input_in, inputs_of, input_of, arrivals_at, arrivals_of};
 
 use crate::fault::ConfigFault;
+use crate::place::{Key, Place, TablePlace};
 use crate::reading::{are_known, array, integer, items, members, number, value_at};
 use ptk_words::{Arrival, LAST_TICK, Tick};
 use std::alloc::{AllocError, Global};
@@ -33,31 +34,48 @@ impl Model for Input {
     ghost view = { λ a. record { tick = a.tick; bytes = a.bytes.items } };
 }
 
-/// The bytes of an array.
+/// The bytes of the array in the table of an input. At a fault the place is that of the fault.
 #[tactic(auto, using(crate::proofs::Walks::walks))]
-fn read_bytes(alloc: Global, values: &[Value]) -> Result<Vec<u8>, ConfigFault>
+fn read_bytes(
+    alloc: Global,
+    here: TablePlace,
+    values: &[Value],
+    place: &mut Place,
+) -> Result<Vec<u8>, ConfigFault>
     ensures value { MemoryAside (λ v. v.items) result (bytes_in (items_view values.now)) }
     ensures count { IfOk result (λ v. vec_len v ≡ length values.now) }
 {
     let mut bytes = Vec::new(alloc);
     for value in values {
+        *place = Place::Item(here, Key::Bytes, bytes.len() + 1);
         let byte = integer(value, 0, 255)?;
         bytes.push(byte as u8)?;
     }
     Ok(bytes)
 }
 
-/// An input at this tick or later, of at most this many bytes.
-fn read_input(alloc: Global, value: &Value, low: u64, room: usize) -> Result<Input, ConfigFault>
+/// An input at this tick or later, of at most this many bytes. At a fault the place is that of the fault.
+fn read_input(
+    alloc: Global,
+    here: TablePlace,
+    value: &Value,
+    low: u64,
+    room: usize,
+    place: &mut Place,
+) -> Result<Input, ConfigFault>
     ensures value { MemoryAside (λ i. i) result (input low room (view value.now)) }
     ensures from { IfOk result (λ i. low ≤ i.tick) }
     ensures to { IfOk result (λ i. i.tick ≤ LAST_TICK) }
     ensures room { IfOk result (λ i. length i.bytes ≤ room) }
 {
+    *place = Place::Table(here);
     let table = members(value)?;
+    *place = Place::Key(here, Key::At);
     let tick = number(table, "at", low, LAST_TICK)?;
+    *place = Place::Key(here, Key::Bytes);
     let values = array(table, "bytes", 0, room)?;
-    let bytes = read_bytes(alloc, values)?;
+    let bytes = read_bytes(alloc, here, values, place)?;
+    *place = Place::Table(here);
     if are_known(table, &["at", "bytes"]) {
         Ok(Input { tick, bytes })
     } else {
@@ -65,9 +83,14 @@ fn read_input(alloc: Global, value: &Value, low: u64, room: usize) -> Result<Inp
     }
 }
 
-/// The inputs that the values state.
+/// The inputs of the section of this number that the values state. At a fault the place is that of the fault.
 #[tactic(auto, using(crate::proofs::Inputs::inputs))]
-fn read_inputs(alloc: Global, values: &[Value]) -> Result<Vec<Input>, ConfigFault>
+fn read_inputs(
+    alloc: Global,
+    section: usize,
+    values: &[Value],
+    place: &mut Place,
+) -> Result<Vec<Input>, ConfigFault>
     ensures value { MemoryAside (λ v. v.items) result (each_after input_in [] (items_view values.now)) }
     ensures ranges { IfOk result (λ v. IsInput (arrivals_of v.items)) }
 {
@@ -75,7 +98,8 @@ fn read_inputs(alloc: Global, values: &[Value]) -> Result<Vec<Input>, ConfigFaul
     let mut last = 0;
     let mut count = 0;
     for value in values {
-        let input = read_input(alloc, value, last, INPUT_TO - count)?;
+        let here = TablePlace::Input(section, inputs.len() + 1);
+        let input = read_input(alloc, here, value, last, INPUT_TO - count, place)?;
         last = input.tick;
         count += input.bytes.len();
         inputs.push(input)?;
@@ -83,15 +107,21 @@ fn read_inputs(alloc: Global, values: &[Value]) -> Result<Vec<Input>, ConfigFaul
     Ok(inputs)
 }
 
-/// The inputs of a section, none where the key is missing.
-fn inputs_of(alloc: Global, table: &Table) -> Result<Vec<Input>, ConfigFault>
+/// The inputs of the section of this number, none if the key is missing. At a fault the place is that of the fault.
+fn inputs_of(
+    alloc: Global,
+    section: usize,
+    table: &Table,
+    place: &mut Place,
+) -> Result<Vec<Input>, ConfigFault>
     ensures value { MemoryAside (λ v. v.items) result (inputs_of (get_member (codes "input") (table_view table.now))) }
     ensures ranges { IfOk result (λ v. IsInput (arrivals_of v.items)) }
 {
     match value_at(table, "input") {
         Some(value) => {
+            *place = Place::Key(TablePlace::Section(section), Key::Input);
             let values = items(value)?;
-            read_inputs(alloc, values)
+            read_inputs(alloc, section, values, place)
         }
         None => Ok(Vec::new(alloc)),
     }
@@ -121,11 +151,16 @@ fn arrivals_of(alloc: Global, inputs: &[Input]) -> Result<Vec<Arrival>, AllocErr
     Ok(arrivals)
 }
 
-/// The input of a section.
-pub(crate) fn read_arrivals(alloc: Global, table: &Table) -> Result<Vec<Arrival>, ConfigFault>
+/// The input of the section of this number. At a fault the place is that of the fault.
+pub(crate) fn read_arrivals(
+    alloc: Global,
+    section: usize,
+    table: &Table,
+    place: &mut Place,
+) -> Result<Vec<Arrival>, ConfigFault>
     ensures value { MemoryAside (λ v. v.items) result (input_of (get_member (codes "input") (table_view table.now))) }
     ensures ranges { IfOk result (λ v. IsInput v.items) }
 {
-    let inputs = inputs_of(alloc, table)?;
+    let inputs = inputs_of(alloc, section, table, place)?;
     Ok(arrivals_of(alloc, &inputs)?)
 }

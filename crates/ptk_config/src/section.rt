@@ -11,6 +11,7 @@ ghost use Rattle.ptk_config.specs.Sections.{is_name, is_name_byte, name, image_o
 
 use crate::fault::ConfigFault;
 use crate::input::read_arrivals;
+use crate::place::{Key, Place, TablePlace};
 use crate::reading::{are_known, members, number, required, text, value_at};
 use ptk_words::{Arrival, Limits, THREAD_LIMIT};
 use std::alloc::Global;
@@ -216,20 +217,30 @@ pub fn stack(table: &Table, memory: u64, threads: u64) -> Result<u64, ConfigFaul
     }
 }
 
-/// The numbers of a section.
-fn read_limits(table: &Table) -> Result<Limits, ConfigFault>
+/// The numbers of a section. At a fault the place is that of the fault.
+fn read_limits(table: &Table, here: TablePlace, place: &mut Place) -> Result<Limits, ConfigFault>
     ensures value { result ≡ limits (table_view table.now) }
     ensures ranges { IfOk result IsWithinLimits }
 {
+    *place = Place::Key(here, Key::Memory);
     let memory = sixteens(table, "memory", MEMORY_FROM, MEMORY_TO)?;
+    *place = Place::Key(here, Key::Threads);
     let threads = number(table, "threads", 1, THREADS_TO)?;
+    *place = Place::Key(here, Key::Stack);
     let stack = stack(table, memory, threads)?;
+    *place = Place::Key(here, Key::Mutexes);
     let mutexes = number(table, "mutexes", 0, MUTEXES_TO)?;
+    *place = Place::Key(here, Key::Conditions);
     let conditions = number(table, "conds", 0, CONDITIONS_TO)?;
+    *place = Place::Key(here, Key::Keys);
     let keys = number(table, "keys", 0, KEYS_TO)?;
+    *place = Place::Key(here, Key::Interval);
     let interval = number(table, "interval", 1, INTERVAL_TO)?;
+    *place = Place::Key(here, Key::Ring);
     let ring = number(table, "ring", 1, RING_TO)?;
+    *place = Place::Key(here, Key::Output);
     let output = number(table, "output", 0, OUTPUT_TO)?;
+    *place = Place::Key(here, Key::Trace);
     let trace = number(table, "trace", 0, TRACE_TO)?;
     Ok(Limits {
         memory: memory as u32,
@@ -261,17 +272,27 @@ pub const KEYS: [&str; 13] = [
     "output", "trace", "input",
 ];
 
-/// The section that a value states.
-pub(crate) fn read_section(alloc: Global, value: &Value) -> Result<Section, ConfigFault>
+/// The section of this number, from 1, that a value states. At a fault the place is that of the fault.
+pub(crate) fn read_section(
+    alloc: Global,
+    number: usize,
+    value: &Value,
+    place: &mut Place,
+) -> Result<Section, ConfigFault>
     ensures value { MemoryAside (λ s. s) result (section (view value.now)) }
     ensures limits { IfOk result (λ s. IsWithinLimits s.limits) }
     ensures input { IfOk result (λ s. IsInput s.input) }
 {
+    let here = TablePlace::Section(number);
+    *place = Place::Table(here);
     let table = members(value)?;
+    *place = Place::Key(here, Key::Name);
     let name = read_name(table)?;
+    *place = Place::Key(here, Key::Image);
     let image = read_image(table)?;
-    let limits = read_limits(table)?;
-    let input = read_arrivals(alloc, table)?;
+    let limits = read_limits(table, here, place)?;
+    let input = read_arrivals(alloc, number, table, place)?;
+    *place = Place::Table(here);
     if !are_known(table, &KEYS) {
         return Err(ConfigFault::UnknownKey);
     }

@@ -7,10 +7,11 @@ ghost use Rattle.ptk_config.specs.Reading.{MemoryAside, each_after};
 ghost use Rattle.ptk_config.specs.Windows.{AreLater, stage, stage_in, stages_of};
 
 use crate::fault::ConfigFault;
+use crate::place::{Key, Place, TablePlace};
 use crate::reading::{are_known, array, counted, items, members, number, value_at};
 use crate::section::Section;
 use crate::window::{WINDOWS_TO, read_windows};
-use ptk_words_windows::Window;
+use ptk_words_model::Window;
 use std::alloc::Global;
 use std::marker::Model;
 use toml::{Table, Value};
@@ -23,13 +24,13 @@ pub const PLANS_TO: usize = 15;
 
 /// Windows that hold from the frame of this number on.
 #[derive(Drop)]
-pub struct Stage {
+pub(crate) struct Stage {
     from: u64,
     windows: Vec<Window>,
 }
 
 impl Model for Stage {
-    ghost use Rattle.ptk_words_windows.specs.Windows as tables;
+    ghost use Rattle.ptk_words_model.specs.Windows as tables;
 
     ghost Value = { tables.Stage };
 
@@ -38,7 +39,7 @@ impl Model for Stage {
 
 impl Stage {
     /// The number of the frame, and the windows.
-    pub fn given(&self) -> (u64, &[Window])
+    pub(crate) fn given(&self) -> (u64, &[Window])
         ensures from { result.0 ≡ self.now.from }
         ensures windows { result.1.now ≡ self.now.windows }
     {
@@ -46,22 +47,30 @@ impl Stage {
     }
 }
 
-/// The windows that a value states, and the number of the frame from which they hold, which is this one or later.
+/// The windows that the plan of this number states, and the number of the frame from which they hold, which is `low` or
+/// later. At a fault the place is that of the fault.
 fn read_stage(
     alloc: Global,
+    plan: usize,
     value: &Value,
     sections: &[Section],
     low: u64,
+    place: &mut Place,
 ) -> Result<Stage, ConfigFault>
     requires { length sections.now ≤ 8 }
     ensures value { MemoryAside (λ s. s) result (stage sections.now low (view value.now)) }
     ensures from { IfOk result (λ s. low ≤ s.from) }
     ensures to { IfOk result (λ s. s.from ≤ 68719476736) }
 {
+    let here = TablePlace::Plan(plan);
+    *place = Place::Table(here);
     let table = members(value)?;
+    *place = Place::Key(here, Key::From);
     let from = number(table, "from", low, LAST_FROM)?;
+    *place = Place::Key(here, Key::Window);
     let values = array(table, "window", 0, WINDOWS_TO)?;
-    let windows = read_windows(alloc, values, sections)?;
+    let windows = read_windows(alloc, Some(plan), values, sections, place)?;
+    *place = Place::Table(here);
     if are_known(table, &["from", "window"]) {
         Ok(Stage { from, windows })
     } else {
@@ -69,12 +78,14 @@ fn read_stage(
     }
 }
 
-/// The stages that the values state, each from a later frame than the one before.
+/// The stages that the values state, each from a later frame than the one before. At a fault the place is that of the
+/// fault.
 #[tactic(auto, using(crate::proofs::Stages::stages))]
 fn read_stages(
     alloc: Global,
     values: &[Value],
     sections: &[Section],
+    place: &mut Place,
 ) -> Result<Vec<Stage>, ConfigFault>
     requires { length sections.now ≤ 8 }
     ensures value { MemoryAside (λ v. v.items) result (each_after (stage_in sections.now) [] (items_view values.now)) }
@@ -84,19 +95,21 @@ fn read_stages(
     let mut stages = Vec::new(alloc);
     let mut last = 0;
     for value in values {
-        let stage = read_stage(alloc, value, sections, last + 1)?;
+        let plan = stages.len() + 1;
+        let stage = read_stage(alloc, plan, value, sections, last + 1, place)?;
         last = stage.from;
         stages.push(stage)?;
     }
     Ok(stages)
 }
 
-/// The stages after the first, none where the key is missing.
+/// The stages after the first, none if the key is missing. At a fault the place is that of the fault.
 #[tactic(auto, using(crate::proofs::Stages::stages), unfolding(crate::specs::Windows::stages_of))]
-pub fn read_later_stages(
+pub(crate) fn read_later_stages(
     alloc: Global,
     table: &Table,
     sections: &[Section],
+    place: &mut Place,
 ) -> Result<Vec<Stage>, ConfigFault>
     requires { length sections.now ≤ 8 }
     ensures value { MemoryAside (λ v. v.items) result (stages_of sections.now (get_member (codes "plan") (table_view table.now))) }
@@ -105,9 +118,10 @@ pub fn read_later_stages(
 {
     match value_at(table, "plan") {
         Some(value) => {
+            *place = Place::Key(TablePlace::Top, Key::Plan);
             let values = items(value)?;
             let values = counted(values, 0, PLANS_TO)?;
-            read_stages(alloc, values, sections)
+            read_stages(alloc, values, sections, place)
         }
         None => Ok(Vec::new(alloc)),
     }

@@ -7,10 +7,11 @@ ghost use Rattle.ptk_config.specs.Reading.{MemoryAside};
 ghost use Rattle.ptk_config.specs.Windows.{number_of, window, windows_in};
 
 use crate::fault::ConfigFault;
+use crate::place::{Key, Place, TablePlace};
 use crate::reading::{are_known, members, number, required, text};
 use crate::section::Section;
 use ptk_words::PartId;
-use ptk_words_windows::Window;
+use ptk_words_model::Window;
 use std::alloc::Global;
 use toml::Value;
 
@@ -42,16 +43,26 @@ fn number_of(sections: &[Section], name: &str) -> PartId
     }
 }
 
-/// The window that a value states.
-fn read_window(value: &Value, sections: &[Section]) -> Result<Window, ConfigFault>
+/// The window that a value states. At a fault the place is that of the fault.
+fn read_window(
+    here: TablePlace,
+    value: &Value,
+    sections: &[Section],
+    place: &mut Place,
+) -> Result<Window, ConfigFault>
     requires { length sections.now ≤ 8 }
     ensures { result ≡ window sections.now (view value.now) }
 {
+    *place = Place::Table(here);
     let table = members(value)?;
+    *place = Place::Key(here, Key::Start);
     let start = number(table, "start", 0, START_TO)?;
+    *place = Place::Key(here, Key::Length);
     let length = number(table, "length", 1, LENGTH_TO)?;
+    *place = Place::Key(here, Key::Partition);
     let name = required(table, "partition")?;
     let name = text(name)?;
+    *place = Place::Table(here);
     if are_known(table, &["start", "length", "partition"]) {
         Ok(Window {
             start: start as u32,
@@ -63,19 +74,23 @@ fn read_window(value: &Value, sections: &[Section]) -> Result<Window, ConfigFaul
     }
 }
 
-/// The windows that the values state.
+/// The windows of the plan of this number that the values state, or of the top if that is None. At a fault the place is
+/// that of the fault.
 #[tactic(auto, using(crate::proofs::Walks::walks), unfolding(crate::specs::Windows::windows_in))]
-pub fn read_windows(
+pub(crate) fn read_windows(
     alloc: Global,
+    plan: Option<usize>,
     values: &[Value],
     sections: &[Section],
+    place: &mut Place,
 ) -> Result<Vec<Window>, ConfigFault>
     requires { length sections.now ≤ 8 }
     ensures { MemoryAside (λ v. v.items) result (windows_in sections.now (items_view values.now)) }
 {
     let mut windows = Vec::new(alloc);
     for value in values {
-        windows.push(read_window(value, sections)?)?;
+        let here = TablePlace::Window(plan, windows.len() + 1);
+        windows.push(read_window(here, value, sections, place)?)?;
     }
     Ok(windows)
 }

@@ -5,8 +5,7 @@ ghost use Rattle.ptk_words_model.specs.Console.{is_full, with_input, with_waiter
 ghost use Rattle.ptk_console.specs.ConsoleTable.{IsNotWaiting, after_next_byte, after_put, first_byte, fresh_console, next_byte, without_byte, without_next};
 
 use circular_buffer::HeapCircularBuffer;
-use ptk_words::{Arrival, Limits, ThreadNo, Tick};
-use ptk_words_parted::Queue;
+use ptk_words::{Arrival, Limits, Queue, ThreadNo, Tick};
 use std::alloc::{AllocError, Global};
 use std::marker::Model;
 

@@ -8,7 +8,7 @@
 //! - Limits are the partition's own.
 //!
 //! Room for all is made by `Consoles::build` alone. Below are `ptk_words_model`, whose definitions the contracts cite,
-//! and `ptk_words_parted`, whose queue keeps the waiters; above are the gate and the kernel. Costly to prove is that a
+//! and `ptk_words`, whose queue keeps the waiters; above are the gate and the kernel. Costly to prove is that a
 //! move of one console is that move in the table (`proofs/Moves`).
 
 mod console;

@@ -13,8 +13,8 @@ use Rattle.ptk_words.specs.declared.faults.FaultKind.TheVariants.{Fetch, Misalig
 use Rattle.ptk_words.specs.declared.sections.Entry.{Entry}
 use Rattle.ptk_words.specs.declared.sections.Limits.{Limits}
 use Rattle.ptk_words.specs.declared.threads.Thread.{Thread}
-use Rattle.ptk_words_instructions.specs.Instructions as instructions
-use Rattle.ptk_words_instructions.specs.Instructions.{Effect, can_fetch, decode_of, effect_at, effect_of_word, with_next_pc}
+use Rattle.ptk_words_model.specs.Instructions as instructions
+use Rattle.ptk_words_model.specs.Instructions.{Effect, can_fetch, decode_of, effect_at, effect_of_word, with_next_pc}
 use Rattle.ptk_words_model.specs.declared.Invocation.{Invocation}
 use Rattle.ptk_words_model.specs.declared.Runner.{Runner}
 use Rattle.ptk_words_model.specs.declared.Spent.TheVariants.{Step, Lost}
@@ -32,7 +32,7 @@ use Rattle.ptk_gate_pools.specs.Kept.{part_at, limits_at}
 use Rattle.ptk_gate_pools.specs.Held.{Held, held, all_of, limits_here}
 use Rattle.ptk_gate_pools.specs.Moves.{with_last_step}
 use Rattle.ptk_gate_pools.proofs.NoWaiters.{runner_apart}
-use Rattle.ptk_gate_services.proofs.Requested.{runner_thread}
+use Rattle.ptk_gate_threads.proofs.Requested.{runner_thread}
 use Rattle.ptk_gate_steps.specs.NextSteps.{IsCallNext, a0_kept}
 use Rattle.ptk_gate.specs.Whole.{AreWhole}
 use Rattle.ptk_gate.specs.CallSteps.{ecall_entry, finished, past_ecall}

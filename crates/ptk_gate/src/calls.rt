@@ -11,18 +11,16 @@ ghost use Rattle.ptk_gate.specs.Answers.{call_answer};
 
 use crate::tables::Tables;
 use ptk_gate_pools::Pools;
-use ptk_gate_services::{
-    cancel, cleanup_pop, cleanup_push, clock_gettime, clock_nanosleep, get, getspecific,
-    key_create, key_delete, put, setcancelstate, setcanceltype, setspecific, testcancel,
-};
 use ptk_gate_sync::{
     cond_broadcast, cond_destroy, cond_init, cond_signal, cond_timedwait, cond_wait,
     mutex_consistent, mutex_destroy, mutex_init, mutex_lock, mutex_timedlock, mutex_trylock,
     mutex_unlock,
 };
 use ptk_gate_threads::{
-    create, detach, exit, getschedparam, join, leave, own_number, refuse, setschedparam,
-    setschedprio, yield_turn,
+    cancel, cleanup_pop, cleanup_push, clock_gettime, clock_nanosleep, create, detach, exit, get,
+    getschedparam, getspecific, join, key_create, key_delete, leave, own_number, put, refuse,
+    setcancelstate, setcanceltype, setschedparam, setschedprio, setspecific, testcancel,
+    yield_turn,
 };
 use ptk_words::{A0, A1, A2, A3, A4, A7, Call, Cpu, Errno, Limits, PartId, ThreadNo, Tick};
 use ptk_words_model::{Invocation, Reply};

@@ -2,7 +2,7 @@
 
 ghost use Rattle.std.specs.Prelude.{◌≡◌, ◌<◌, ◌+◌, true, length, Some, IsSome};
 ghost use Rattle.ptk_words.specs.declared.TheConstants.{CANCELED};
-ghost use Rattle.ptk_words_instructions.specs.Instructions.{effect_at};
+ghost use Rattle.ptk_words_model.specs.Instructions.{effect_at};
 ghost use Rattle.ptk_words_model.specs.Priority.{thread_at};
 ghost use Rattle.ptk_words_model.specs.Schedule.{after_choice, after_interval, with_thread};
 ghost use Rattle.ptk_words_model.specs.Unwinding.{after_unwinding_start, after_gate_step};
@@ -17,9 +17,10 @@ ghost use Rattle.ptk_words.specs.Words.{word_of};
 ghost use Rattle.ptk_words_model.specs.State.{with_locks};
 
 use crate::tables::Tables;
-use ptk_gate_services::{arrive_due, expire_due};
 use ptk_gate_steps::{NextStep, a0_after, instruct, next_step, registers, runner};
-use ptk_gate_threads::{choose, count_interval, start_unwinding, step_at_gate};
+use ptk_gate_threads::{
+    arrive_due, choose, count_interval, expire_due, start_unwinding, step_at_gate,
+};
 use ptk_threads::ThreadField;
 use ptk_words::{CANCELED, Cpu, Entry, PartId, Thread, ThreadNo, Tick};
 use ptk_words_model::Runner;

@@ -77,7 +77,8 @@ impl Tables {
     }
 
     /// How many stored priorities the last call on mutexes read as it raised some, of whatever partition: at most one
-    /// more than a partition may have threads.
+    /// more than a partition may have threads. The exact number is promised by the calls of `ptk_mutex`; here and above
+    /// its bound alone is.
     pub fn visited(&self) -> u32
         ensures { result ≤ THREAD_LIMIT + 1 }
     {

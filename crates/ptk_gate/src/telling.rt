@@ -7,12 +7,12 @@ ghost use Rattle.ptk_words_model.specs.Priority.{effective_priority, thread_at};
 ghost use Rattle.ptk_words_model.specs.Mutex.{mutex_at};
 ghost use Rattle.ptk_words_model.specs.CancellationCalls.{cancellation_of};
 ghost use Rattle.ptk_words_model.specs.Withdrawal.{deadlines_of};
-ghost use Rattle.ptk_mutex_priorities.specs.Slots.{state_of};
+ghost use Rattle.ptk_roster.specs.Slots.{state_of};
 ghost use Rattle.ptk_clock.specs.ByThread.{least_deadline};
 ghost use Rattle.ptk_gate_pools.specs.Kept.{part_at};
 
 use crate::tables::Tables;
-use ptk_mutex_priorities::MutexState;
+use ptk_roster::MutexState;
 use ptk_words::{MutexNo, Owner, PartId, ThreadNo, Tick};
 
 impl Tables {

@@ -11,7 +11,7 @@
 //!   of it (`next_step`, `runner`, `registers`, `a0_after`).
 //!
 //! Besides there is what a word of a guest means: a thread, a priority, a deadline, a place in memory. Below is
-//! `ptk_gate_pools`, whose `Pools`, `Look` and specs are passed on to the crates above: `ptk_gate_services`,
+//! `ptk_gate_pools`, whose `Pools`, `Look` and specs are passed on to the crates above: `ptk_gate_threads`,
 //! `ptk_gate_steps`, `ptk_gate_threads`, `ptk_gate_sync` and the gate's tables. Costly to prove is `begin`, four moves
 //! in a row.
 

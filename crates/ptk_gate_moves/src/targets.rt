@@ -5,7 +5,7 @@ ghost use Rattle.std.specs.Option.{option_copied};
 ghost use Rattle.ptk_words.specs.Pools.{pool_get};
 ghost use Rattle.ptk_words_model.specs.Decision.{runner_at};
 ghost use Rattle.ptk_words_model.specs.Priority.{thread_at};
-ghost use Rattle.ptk_threads_slots.specs.Links.{threads_of};
+ghost use Rattle.ptk_threads.specs.Links.{threads_of};
 
 use ptk_gate_pools::Pools;
 use ptk_threads::Slot;

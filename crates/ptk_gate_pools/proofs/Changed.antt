@@ -9,15 +9,15 @@ use Rattle.ptk_words.specs.declared.threads.Wait.{Wait}
 use Rattle.ptk_words_model.specs.State.{Condition, Locks, Mutex, Part, Syncs, with_locks, with_syncs}
 use Rattle.ptk_words_model.specs.Schedule.{with_thread}
 use Rattle.ptk_words_model.specs.Priority.{effective_priorities}
-use Rattle.ptk_words_parted.specs.Parts.{part_of}
-use Rattle.ptk_words_parted.proofs.Cuts.{set_part-same}
+use Rattle.ptk_words.specs.Parts.{part_of}
+use Rattle.ptk_words.proofs.Cuts.{set_part-same}
 use Rattle.ptk_threads.specs.Table.{ThreadTable, thread_in, with_changed, with_slot, with_left}
-use Rattle.ptk_gate_boot.specs.Rosters.{Rostered}
-use Rattle.ptk_gate_waits.specs.LockRosters.{with_priorities}
-use Rattle.ptk_gate_waits.specs.LockTables.{put_locks}
-use Rattle.ptk_gate_waits.specs.Sound.{put_syncs}
-use Rattle.ptk_gate_waits.specs.Mutexes.{Mutexes}
-use Rattle.ptk_gate_waits.proofs.Sound.{as_syncs, with_locks_of}
+use Rattle.ptk_gate_memory.specs.Rosters.{Rostered}
+use Rattle.ptk_cond.specs.LockRosters.{with_priorities}
+use Rattle.ptk_cond.specs.LockTables.{put_locks}
+use Rattle.ptk_cond.specs.Sound.{put_syncs}
+use Rattle.ptk_cond.specs.Mutexes.{Mutexes}
+use Rattle.ptk_cond.proofs.Sound.{as_syncs, with_locks_of}
 use Rattle.ptk_gate_pools.specs.declared.pools.Pools.TheInside.{Inside}
 use Rattle.ptk_gate_pools.specs.Held.{held}
 use Rattle.ptk_gate_pools.proofs.Hands.{held-put}

@@ -4,10 +4,10 @@ use Rattle.std.specs.Prelude.{not, nat_lt, ◌==◌, Option, Some, option_map, u
 use Rattle.std.proofs.Math.ListN.{set}
 use Rattle.std.proofs.lemmas.Bool.{ne_eqb, lt-ltb}
 use Rattle.ptk_words.specs.Pools.{pool_set, least_free}
-use Rattle.ptk_words_parted.specs.Parts.{part_of}
+use Rattle.ptk_words.specs.Parts.{part_of}
 use Rattle.ptk_words_model.specs.State.{Condition}
-use Rattle.ptk_gate_boot.specs.Waiters.{condition_of}
-use Rattle.ptk_gate_waits.specs.Pool.{with_new_condition}
+use Rattle.ptk_gate_memory.specs.Waiters.{condition_of}
+use Rattle.ptk_cond.specs.Pool.{with_new_condition}
 
 -- the least free number is the condition variable's
 pub condition_opened : (p c : ℕ) (conditions new : List (List (Option Condition))) → least_free (part_of conditions p) ≡ Some c → new ≡ set conditions p (with_new_condition (part_of conditions p))

@@ -9,8 +9,8 @@ use Rattle.ptk_words_model.specs.Mutex.{wait_of}
 use Rattle.ptk_words_model.specs.Withdrawal.{Expiry, after_timeout, deadlines_of}
 use Rattle.ptk_words_sync_invariant.specs.Expiries.{next_expiry}
 use Rattle.ptk_threads.specs.Table.{thread_in}
-use Rattle.ptk_gate_waits.specs.Tables.{syncs_by}
-use Rattle.ptk_gate_waits.specs.Timeouts.{after_sync_timeout}
+use Rattle.ptk_cond.specs.Tables.{syncs_by}
+use Rattle.ptk_cond.specs.Timeouts.{after_sync_timeout}
 use Rattle.ptk_gate_pools.specs.declared.pools.Pools.TheInside.{Inside}
 use Rattle.ptk_gate_pools.specs.Kept.{part_at}
 use Rattle.ptk_gate_pools.specs.Pooled.{kept_of}

@@ -1,7 +1,7 @@
 -- The tables by the partition in hand.
 use Rattle.std.proofs.Common.{◌≡◌, ℕ, ◌<◌, ◌∙◌, ap, sym, subst}
 use Rattle.std.proofs.lemmas.List.{set-get_or, set-set, get_or-set_same, length-set}
-use Rattle.ptk_words_parted.proofs.Cuts.{lent-same}
+use Rattle.ptk_words.proofs.Cuts.{lent-same}
 use Rattle.ptk_words.specs.declared.sections.Limits.{Limits}
 use Rattle.ptk_words_model.specs.State.{Part}
 use Rattle.ptk_gate_pools.specs.Kept.{Kept, AreParts, limits_at, part_at, put_part}

@@ -4,12 +4,12 @@ use Rattle.std.specs.Prelude.{Option}
 use Rattle.std.proofs.Math.ListN.{set}
 use Rattle.std.proofs.lemmas.Bool.{cases_eq}
 use Rattle.ptk_words.specs.declared.threads.Thread.{Thread}
-use Rattle.ptk_words_parted.specs.Parts.{part_of}
+use Rattle.ptk_words.specs.Parts.{part_of}
 use Rattle.ptk_words_model.specs.State.{Mutex, Locks}
 use Rattle.ptk_words_model.specs.Priority.{effective_priorities}
 use Rattle.ptk_threads.specs.Table.{ThreadTable}
 use Rattle.ptk_threads.proofs.Pools.{part_of-set, part_of-set_other}
-use Rattle.ptk_gate_waits.specs.LockTables.{locks_by, with_threads, AreLocked, AreReadyBy}
+use Rattle.ptk_cond.specs.LockTables.{locks_by, with_threads, AreLocked, AreReadyBy}
 use Rattle.ptk_gate_pools.specs.Kept.{AreStored}
 
 -- each table has the partition, mutexes are used as they should be, and stored priorities are the effective ones

@@ -4,7 +4,7 @@ use Rattle.std.specs.Prelude.{Option, Some, None, option_map, slice_get, slice_s
 use Rattle.std.specs.Option.{option_flatten}
 use Rattle.ptk_words.specs.Pools.{least_free, pool_get, pool_changed}
 use Rattle.ptk_words.specs.declared.threads.Thread.{Thread}
-use Rattle.ptk_words_parted.specs.Parts.{part_of}
+use Rattle.ptk_words.specs.Parts.{part_of}
 use Rattle.ptk_threads.specs.Table.{ThreadTable, with_slot, with_new, with_new_at}
 
 -- the least free number gets the thread

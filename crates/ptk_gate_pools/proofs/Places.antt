@@ -3,8 +3,8 @@ use Rattle.std.proofs.Common.{◌≡◌, ℕ, List, map, refl, ◌∙◌, ap}
 use Rattle.std.specs.Prelude.{Option, Some, None, is_some}
 use Rattle.ptk_words.specs.Pools.{pool_get}
 use Rattle.ptk_words_model.specs.State.{Mutex}
-use Rattle.ptk_mutex_priorities.specs.Slots.{bare}
-use Rattle.ptk_mutex_priorities.proofs.Bare.{pool_get-bare}
+use Rattle.ptk_roster.specs.Slots.{bare}
+use Rattle.ptk_roster.proofs.Bare.{pool_get-bare}
 
 is_some-bare : (x : Option Mutex) → is_some (bare x) ≡ is_some x
 is_some-bare None = refl

@@ -5,13 +5,13 @@ use Rattle.std.proofs.Math.ListN.{set}
 use Rattle.ptk_words.specs.Pools.{pool_get, pool_changed, numbers_of}
 use Rattle.ptk_words.specs.declared.mutexes.Owner.TheVariants.{Free, OwnedBy}
 use Rattle.ptk_words.specs.declared.threads.Thread.{Thread}
-use Rattle.ptk_words_parted.specs.Parts.{part_of}
+use Rattle.ptk_words.specs.Parts.{part_of}
 use Rattle.ptk_words_model.specs.State.{Mutex, locks_of}
 use Rattle.ptk_words_model.specs.Priority.{effective_of}
 use Rattle.ptk_words_model.specs.Mutex.{after_take, after_free}
 use Rattle.ptk_words_sync_invariant.proofs.MutexPlaces.{effective-set}
-use Rattle.ptk_mutex_priorities.specs.Plain.{is_raising_at}
-use Rattle.ptk_mutex_priorities.proofs.Plain.{plain_inherits, plain_ceiling, plain_kept}
+use Rattle.ptk_roster.specs.Plain.{is_raising_at}
+use Rattle.ptk_roster.proofs.Plain.{plain_inherits, plain_ceiling, plain_kept}
 use Rattle.ptk_gate_pools.specs.Kept.{AreStored}
 use Rattle.ptk_gate_pools.proofs.Vacant.{stored_put}
 

@@ -6,12 +6,12 @@ use Rattle.std.proofs.lemmas.List.{length-set, set-get_or, get_or_default}
 use Rattle.ptk_words.specs.Processor.{Processor}
 use Rattle.ptk_words.specs.declared.sections.Entry.{Entry}
 use Rattle.ptk_words.specs.declared.threads.Thread.{Thread}
-use Rattle.ptk_words_parted.specs.Parts.{part_of}
-use Rattle.ptk_words_instructions.specs.PlainSteps.{core, plain_steps}
-use Rattle.ptk_gate_boot.specs.Quiet.{computed, last_after, after_row}
+use Rattle.ptk_words.specs.Parts.{part_of}
+use Rattle.ptk_words_model.specs.PlainSteps.{core, plain_steps}
+use Rattle.ptk_gate_memory.specs.Quiet.{computed, last_after, after_row}
 use Rattle.ptk_threads.specs.Table.{ThreadTable, with_changed}
-use Rattle.ptk_gate_boot.specs.Rosters.{Rostered}
-use Rattle.ptk_gate_waits.proofs.Moved.{wakes}
+use Rattle.ptk_gate_memory.specs.Rosters.{Rostered}
+use Rattle.ptk_cond.proofs.Moved.{wakes}
 use Rattle.ptk_gate_pools.specs.Kept.{Kept, AreStored, part_at, put_part}
 use Rattle.ptk_gate_pools.specs.Pooled.{kept_of, ArePooled}
 use Rattle.ptk_gate_pools.specs.declared.pools.Pools.TheInside.{Inside}

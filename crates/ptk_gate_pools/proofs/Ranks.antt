@@ -5,13 +5,13 @@ use Rattle.std.proofs.lemmas.List.{set-get_or}
 use Rattle.ptk_words.specs.Pools.{pool_get, first_of_greatest}
 use Rattle.ptk_words.specs.declared.threads.Thread.{Thread}
 use Rattle.ptk_words.proofs.Pools.{used_number}
-use Rattle.ptk_words_parted.specs.Parts.{part_of}
+use Rattle.ptk_words.specs.Parts.{part_of}
 use Rattle.ptk_words_model.specs.State.{Mutex, Part}
 use Rattle.ptk_words_model.specs.Decision.{first_waiter}
 use Rattle.ptk_words_model.specs.Schedule.{first_ready, after_choice_between}
 use Rattle.ptk_words_model.specs.Priority.{effective_of}
 use Rattle.ptk_threads.specs.Table.{stored_of}
-use Rattle.ptk_gate_waits.proofs.Locked.{stored_at, first_same, ranks_same}
+use Rattle.ptk_cond.proofs.Locked.{stored_at, first_same, ranks_same}
 use Rattle.ptk_gate_pools.specs.Kept.{Kept, AreStored, AreInUse, part_at, put_part}
 
 -- the stored priority of a thread in use is its effective one

@@ -8,14 +8,14 @@ use Rattle.ptk_words.specs.Pools.{pool_get, pool_set, pool_changed}
 use Rattle.ptk_words.specs.declared.threads.Thread.{Thread}
 use Rattle.ptk_words.specs.declared.threads.Wait.{Wait}
 use Rattle.ptk_words.proofs.Options.{none_if_not_some}
-use Rattle.ptk_words_parted.specs.Parts.{part_of}
-use Rattle.ptk_words_parted.proofs.Entries.{own_row}
+use Rattle.ptk_words.specs.Parts.{part_of}
+use Rattle.ptk_words.proofs.Entries.{own_row}
 use Rattle.ptk_words_model.specs.State.{Mutex}
 use Rattle.ptk_words_model.specs.Priority.{awaited, effective_priorities}
 use Rattle.ptk_words.specs.Threads.{mutex_of_wait}
 use Rattle.ptk_threads.specs.Table.{ThreadTable, thread_in, stored_left, with_changed, with_slot, with_left}
 use Rattle.ptk_threads.proofs.Pools.{part_of-set}
-use Rattle.ptk_gate_waits.proofs.Priorities.{level, priorities_changed, level_kept, awaited_kept}
+use Rattle.ptk_cond.proofs.Priorities.{level, priorities_changed, level_kept, awaited_kept}
 use Rattle.ptk_gate_pools.specs.Kept.{AreStored}
 
 -- ---- a change that no priority reads

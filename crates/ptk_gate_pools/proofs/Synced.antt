@@ -16,9 +16,9 @@ use Rattle.ptk_words_sync_invariant.proofs.Conditions.{IsConditionWait, conditio
 use Rattle.ptk_words_invariant.specs.Well.{IsWell}
 use Rattle.ptk_words_invariant.proofs.Synced.{lined_of}
 use Rattle.ptk_threads.specs.Table.{ThreadTable}
-use Rattle.ptk_gate_waits.specs.LockTables.{IsWaiter, AreLocked}
-use Rattle.ptk_gate_waits.specs.Timeouts.{IsBlocked}
-use Rattle.ptk_gate_waits.specs.Tables.{syncs_by, AreSyncedBy, IsOnCondition, AreWaiting, IsAwake}
+use Rattle.ptk_cond.specs.LockTables.{IsWaiter, AreLocked}
+use Rattle.ptk_cond.specs.Timeouts.{IsBlocked}
+use Rattle.ptk_cond.specs.Tables.{syncs_by, AreSyncedBy, IsOnCondition, AreWaiting, IsAwake}
 use Rattle.ptk_gate_pools.specs.Kept.{AreStored}
 use Rattle.ptk_gate_pools.proofs.Locking.{ready_is}
 

@@ -9,14 +9,14 @@ use Rattle.ptk_words.specs.declared.mutexes.MutexKind.{MutexKind}
 use Rattle.ptk_words.specs.declared.mutexes.Protocol.{Protocol}
 use Rattle.ptk_words.specs.declared.threads.Thread.{Thread}
 use Rattle.ptk_words.proofs.Pools.{least_free_none}
-use Rattle.ptk_words_parted.specs.Parts.{part_of}
-use Rattle.ptk_words_parted.proofs.Entries.{own_row}
+use Rattle.ptk_words.specs.Parts.{part_of}
+use Rattle.ptk_words.proofs.Entries.{own_row}
 use Rattle.ptk_words_model.specs.State.{Mutex}
 use Rattle.ptk_words_model.specs.Priority.{effective_priorities}
 use Rattle.ptk_words_model.specs.Mutex.{new_mutex, waiters_of}
 use Rattle.ptk_words_model.specs.MutexCalls.{is_locked}
-use Rattle.ptk_gate_waits.specs.LockPool.{with_new_mutex}
-use Rattle.ptk_gate_waits.proofs.Ready.{IsIdle, idle_none, idle_unlocked, effective_set}
+use Rattle.ptk_cond.specs.LockPool.{with_new_mutex}
+use Rattle.ptk_cond.proofs.Ready.{IsIdle, idle_none, idle_unlocked, effective_set}
 use Rattle.ptk_gate_pools.specs.Kept.{AreStored}
 
 -- ---- one in place of another

@@ -7,17 +7,17 @@ use Rattle.ptk_words.specs.declared.sections.Entry.{Entry}
 use Rattle.ptk_words.specs.declared.sections.Limits.{Limits}
 use Rattle.ptk_words.specs.declared.threads.Cleanup.{Cleanup}
 use Rattle.ptk_words.specs.declared.threads.Thread.{Thread}
-use Rattle.ptk_words_parted.specs.Parts.{part_of}
+use Rattle.ptk_words.specs.Parts.{part_of}
 use Rattle.ptk_words_model.specs.declared.Cancellation.{Cancellation}
 use Rattle.ptk_words_model.specs.declared.Rounds.{Rounds}
 use Rattle.ptk_words_model.specs.State.{Mutex, Condition, Console, Part}
 use Rattle.ptk_words_model.specs.Priority.{effective_priorities}
 use Rattle.ptk_words_invariant.specs.Well.{IsWell}
-use Rattle.ptk_gate_boot.specs.Rosters.{AreQueuesIn}
+use Rattle.ptk_gate_memory.specs.Rosters.{AreQueuesIn}
 use Rattle.ptk_console.specs.ConsoleTable.{fresh_console, no_limits}
 pub use Rattle.ptk_threads.specs.Timed.{deadlines_in}
-pub use Rattle.ptk_gate_boot.specs.Sections.{per_section}
-pub use Rattle.ptk_gate_boot.specs.AllDecoded.{IsOfWords}
+pub use Rattle.ptk_gate_memory.specs.Sections.{per_section}
+pub use Rattle.ptk_gate_memory.specs.AllDecoded.{IsOfWords}
 
 -- each component as a list with an entry for each partition
 pub record Kept : Type 0 where

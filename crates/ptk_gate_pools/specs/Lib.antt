@@ -5,5 +5,5 @@ pub mod Moves
 pub mod Expired
 pub mod Blank
 pub mod Rows
-pub use Rattle.ptk_gate_waits.specs.LockTables as Tables
-pub use Rattle.ptk_gate_boot.specs.TracedRows
+pub use Rattle.ptk_cond.specs.LockTables as Tables
+pub use Rattle.ptk_gate_memory.specs.TracedRows

@@ -6,7 +6,7 @@ use Rattle.ptk_words.specs.declared.sections.Entry.{Entry}
 use Rattle.ptk_words.specs.declared.threads.Thread.{Thread}
 use Rattle.ptk_words.specs.Pools.{pool_set, pool_left, without}
 use Rattle.ptk_words_model.specs.State.{Locks, Part, with_console}
-use Rattle.ptk_gate_boot.specs.Lines.{without_one}
+use Rattle.ptk_gate_memory.specs.Lines.{without_one}
 use Rattle.ptk_console.specs.ConsoleTable.{without_next}
 
 -- the number is the thread's (pthread_create)

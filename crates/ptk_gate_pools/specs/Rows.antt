@@ -1,10 +1,10 @@
 -- Plain steps in a row as work on their thread.
 use Rattle.std.specs.Prelude.{◌≡◌, ℕ, ◌+◌, ◌^◌, ◌<◌, ◌≤◌, length, slice_set, false}
 use Rattle.ptk_words.specs.declared.threads.Thread.{Thread}
-use Rattle.ptk_words_parted.specs.Parts.{part_of}
-use Rattle.ptk_words_instructions.specs.PlainSteps.{core, is_plain, plain_steps}
-use Rattle.ptk_gate_boot.specs.Quiet.{ArePlain, computed, last_after}
-use Rattle.ptk_gate_boot.specs.TracedRows.{traced}
+use Rattle.ptk_words.specs.Parts.{part_of}
+use Rattle.ptk_words_model.specs.PlainSteps.{core, is_plain, plain_steps}
+use Rattle.ptk_gate_memory.specs.Quiet.{ArePlain, computed, last_after}
+use Rattle.ptk_gate_memory.specs.TracedRows.{traced}
 use Rattle.ptk_gate_pools.specs.declared.rows.PlainRow.{PlainRow}
 
 -- the partition has a memory, the ticks of the row are numbers of 64 bits, and those that the thread used of its interval are of 32 (own)

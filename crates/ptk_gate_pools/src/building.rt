@@ -5,16 +5,16 @@ ghost use Rattle.ptk_words.specs.declared.faults.Status.TheVariants.{Active};
 ghost use Rattle.ptk_cancel.specs.KeptCancellations.{fresh_cancellations};
 ghost use Rattle.ptk_keys.specs.KeptKeys.{fresh_keys};
 ghost use Rattle.ptk_console.specs.ConsoleTable.{fresh_console};
-ghost use Rattle.ptk_gate_boot.specs.AllDecoded.{IsOfWords};
+ghost use Rattle.ptk_gate_memory.specs.AllDecoded.{IsOfWords};
 ghost use Rattle.ptk_gate_pools.specs.Blank.{blank};
 ghost use Rattle.ptk_gate_pools.specs.Kept.{per_section};
 ghost use Rattle.ptk_gate_pools.specs.Held.{held};
 
 use crate::pools::Pools;
-use ptk_gate_boot::{
+use ptk_cond::Mutexes;
+use ptk_gate_memory::{
     Endings, Records, Schedules, Stores, ThreadParts, records_of, stores_of, thread_parts_of,
 };
-use ptk_gate_waits::Mutexes;
 use ptk_words::{Arrival, Limits, PartId};
 use std::alloc::{AllocError, Global};
 

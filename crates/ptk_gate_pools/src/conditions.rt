@@ -13,7 +13,6 @@ ghost use Rattle.ptk_words_invariant.specs.Well.{IsWell};
 ghost use Rattle.ptk_gate_pools.specs.Held.{limits_here};
 
 use crate::pools::Pools;
-use ptk_gate_waits::conditions;
 use ptk_words::{ConditionNo, MutexNo, ThreadNo, Tick};
 
 impl Pools {
@@ -22,7 +21,7 @@ impl Pools {
         ensures { result ≡ (if is_some (pool_get self.now.here.conditions word) then Some word else None) }
     {
         let p = self.hand;
-        conditions::numbered(&self.roster, p, word)
+        ptk_cond::numbered(&self.roster, p, word)
     }
 
     /// The least free number of a condition variable; None where no number is free.
@@ -48,7 +47,7 @@ impl Pools {
         ensures { result ≡ names_another self.now.here.syncs c m }
     {
         let p = self.hand;
-        conditions::names_another(&self.roster, p, c, m)
+        ptk_cond::names_another(&self.roster, p, c, m)
     }
 
     /// A new condition variable, without waiters, at the least free number (pthread_cond_init).
@@ -58,7 +57,7 @@ impl Pools {
         ensures { self.new ≡ record self.old { here = with_pool_condition c (Some (record { waiters = [] })) self.old.here } }
     {
         let p = self.hand;
-        conditions::init(&mut self.roster, p);
+        ptk_cond::init(&mut self.roster, p);
     }
 
     /// The number of a condition variable without waiters is free (pthread_cond_destroy).
@@ -68,7 +67,7 @@ impl Pools {
         ensures { self.new ≡ record self.old { here = with_pool_condition c None self.old.here } }
     {
         let p = self.hand;
-        conditions::destroy(&mut self.roster, p, c);
+        ptk_cond::destroy(&mut self.roster, p, c);
     }
 
     /// The running thread unlocks its mutex once, as unlock does, and is then the last waiter of the condition
@@ -86,7 +85,7 @@ impl Pools {
         let p = self.hand;
         let roster = &mut self.roster;
         let mutexes = &mut self.mutexes;
-        conditions::wait(roster, mutexes, p, t, c, m, deadline);
+        ptk_cond::wait(roster, mutexes, p, t, c, m, deadline);
     }
 
     /// The waiter of greatest effective priority, the earliest among equals, is unblocked: it re-locks the mutex that
@@ -100,7 +99,7 @@ impl Pools {
         let p = self.hand;
         let roster = &mut self.roster;
         let mutexes = &mut self.mutexes;
-        conditions::signal(roster, mutexes, p, c);
+        ptk_cond::signal(roster, mutexes, p, c);
     }
 
     /// Every waiter is unblocked, one after the other, each choice in the state that the one before left
@@ -113,7 +112,7 @@ impl Pools {
         let p = self.hand;
         let roster = &mut self.roster;
         let mutexes = &mut self.mutexes;
-        conditions::broadcast(roster, mutexes, p, c);
+        ptk_cond::broadcast(roster, mutexes, p, c);
     }
 
     /// A thread that waits on the condition variable is taken out of that wait: it re-locks the mutex that it named,
@@ -127,6 +126,6 @@ impl Pools {
         let p = self.hand;
         let roster = &mut self.roster;
         let mutexes = &mut self.mutexes;
-        conditions::withdraw(roster, mutexes, p, t, c, None);
+        ptk_cond::withdraw(roster, mutexes, p, t, c, None);
     }
 }

@@ -12,7 +12,7 @@ ghost use Rattle.ptk_gate_pools.specs.Expired.{after_one_expiry};
 
 use crate::pools::Pools;
 use ptk_clock::SharedDeadlines;
-use ptk_gate_waits::time_out;
+use ptk_cond::time_out;
 use ptk_words::Tick;
 
 impl Pools {

@@ -18,7 +18,7 @@
 //! again. The deadlines of waits are the slot table's, so no move speaks of them. `run_row` is made on the thread's
 //! registers in the slot table and on the lent memory: `plain` and `ended` say which steps they are, `moved` what they
 //! leave of the part, `traced` what the trace has (`proofs/PlainRows`). Below are the pools of each kind,
-//! `ptk_gate_boot`, which makes them, `ptk_gate_waits`, the instructions and their rows; above is `ptk_gate_moves`.
+//! `ptk_gate_memory`, which makes them, `ptk_cond`, the instructions and their rows; above is `ptk_gate_moves`.
 //! Costly to prove are the choices by stored priorities; what takes the check longest is the drop of all pools.
 
 mod arrivals;
@@ -42,4 +42,4 @@ mod threads;
 
 pub use look::Look;
 pub use pools::Pools;
-pub use ptk_gate_boot::place_of;
+pub use ptk_gate_memory::place_of;

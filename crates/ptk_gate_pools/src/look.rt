@@ -10,12 +10,12 @@ ghost use Rattle.ptk_words_model.specs.Withdrawal.{deadlines_of};
 ghost use Rattle.ptk_words_model.specs.CancellationCalls.{cancellation_of};
 ghost use Rattle.ptk_cancel.specs.KeptCancellations.{is_acting};
 ghost use Rattle.ptk_clock.specs.ByThread.{least_deadline};
-ghost use Rattle.ptk_mutex_priorities.specs.Slots.{state_of};
+ghost use Rattle.ptk_roster.specs.Slots.{state_of};
 ghost use Rattle.ptk_gate_pools.specs.Kept.{AreInUse, part_at};
 ghost use Rattle.ptk_gate_pools.specs.Held.{all_of, seen};
 
 use crate::pools::Pools;
-use ptk_gate_waits::MutexState;
+use ptk_cond::MutexState;
 use ptk_words::{Entry, MutexNo, PartId, Status, Thread, ThreadNo, Tick};
 use std::marker::Model;
 

@@ -12,13 +12,13 @@ ghost use Rattle.ptk_words_model.specs.Mutex.{mutex_at, new_mutex, waiters_of, o
 ghost use Rattle.ptk_words_model.specs.MutexCalls.{is_locked};
 ghost use Rattle.ptk_words_model.specs.Condition.{names_mutex};
 ghost use Rattle.ptk_words_model.specs.Calls.{with_pool_mutex};
-ghost use Rattle.ptk_mutex_priorities.specs.Slots.{state_of};
-ghost use Rattle.ptk_gate_waits.specs.LockTables.{AreLocked, MayWait};
+ghost use Rattle.ptk_roster.specs.Slots.{state_of};
+ghost use Rattle.ptk_cond.specs.LockTables.{AreLocked, MayWait};
 ghost use Rattle.ptk_words_sync_invariant.specs.Conditions.{IsNoWaiter};
 
 use crate::pools::Pools;
-use ptk_gate_waits::{MutexState, conditions};
-use ptk_mutex_priorities::MutexSlot;
+use ptk_cond::MutexState;
+use ptk_roster::MutexSlot;
 use ptk_words::{MutexKind, MutexNo, Protocol, ThreadNo, Tick};
 use ptk_words_model::LockMove;
 
@@ -90,7 +90,7 @@ impl Pools {
         ensures { result ≡ names_mutex self.now.here.locks m }
     {
         let p = self.hand;
-        conditions::names(&self.roster, p, m)
+        ptk_cond::names(&self.roster, p, m)
     }
 
     /// What lock would do now; nothing changes (pthread_mutex_lock, pthread_mutex_timedlock).

@@ -3,7 +3,7 @@
 ghost use Rattle.std.specs.Prelude.{◌≡◌, ◌<◌, false, length};
 ghost use Rattle.ptk_words_model.specs.State.{with_locks};
 ghost use Rattle.ptk_words_model.specs.Mutex.{mutex_at, after_take, after_free};
-ghost use Rattle.ptk_mutex_priorities.specs.Plain.{is_takeable, is_releasable, is_raising_at};
+ghost use Rattle.ptk_roster.specs.Plain.{is_takeable, is_releasable, is_raising_at};
 
 use crate::pools::Pools;
 use ptk_words::{MutexNo, ThreadNo};

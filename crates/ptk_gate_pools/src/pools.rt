@@ -6,9 +6,9 @@ ghost use Rattle.ptk_gate_pools.specs.Kept.{AreStored, AreQueued};
 ghost use Rattle.ptk_gate_pools.specs.Held.{held, all_of};
 
 use ptk_cancel::Cancellations;
+use ptk_cond::Mutexes;
 use ptk_console::Consoles;
-use ptk_gate_boot::{Memories, Roster};
-use ptk_gate_waits::Mutexes;
+use ptk_gate_memory::{Memories, Roster};
 use ptk_keys::KeyTable;
 use ptk_regions::Regions;
 use ptk_threads::Threads;
@@ -88,7 +88,8 @@ impl Pools {
     }
 
     /// How many stored priorities the last call on mutexes read as it raised some, of whatever partition: at most one
-    /// more than a partition may have threads.
+    /// more than a partition may have threads. The exact number is promised by the calls of `ptk_mutex`; here and above
+    /// its bound alone is.
     pub fn visited(&self) -> u32
         ensures { result ≤ THREAD_LIMIT + 1 }
     {

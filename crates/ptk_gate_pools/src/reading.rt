@@ -8,7 +8,7 @@ ghost use Rattle.ptk_words_model.specs.Keys.{is_key, specific, destructor_of, ne
 ghost use Rattle.ptk_words_model.specs.CancellationCalls.{cancellation_of};
 ghost use Rattle.ptk_words_model.specs.Priority.{thread_at};
 ghost use Rattle.ptk_cancel.specs.KeptCancellations.{is_point_acting};
-ghost use Rattle.ptk_threads_slots.specs.Links.{threads_of};
+ghost use Rattle.ptk_threads.specs.Links.{threads_of};
 
 use crate::pools::Pools;
 use ptk_keys::{DestructorCall, KeyNo};

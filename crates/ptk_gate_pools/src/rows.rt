@@ -2,15 +2,15 @@
 
 ghost use Rattle.std.specs.Prelude.{◌≡◌, false, ◌+◌, ◌^◌, ◌<◌, ◌≤◌, length, slice_set, Option, Some, IsSome};
 ghost use Rattle.ptk_words.specs.declared.threads.Thread.{Thread};
-ghost use Rattle.ptk_words_parted.specs.Parts.{part_of};
-ghost use Rattle.ptk_words_instructions.specs.PlainSteps.{core, is_plain, plain_steps};
+ghost use Rattle.ptk_words.specs.Parts.{part_of};
+ghost use Rattle.ptk_words_model.specs.PlainSteps.{core, is_plain, plain_steps};
 ghost use Rattle.ptk_words_model.specs.Priority.{thread_at};
 ghost use Rattle.ptk_threads.specs.Table.{thread_in, with_changed};
-ghost use Rattle.ptk_gate_boot.specs.Quiet.{ArePlain, core_of, computed, after_row, last_after};
-ghost use Rattle.ptk_gate_boot.specs.TracedRows.{traced};
+ghost use Rattle.ptk_gate_memory.specs.Quiet.{ArePlain, core_of, computed, after_row, last_after};
+ghost use Rattle.ptk_gate_memory.specs.TracedRows.{traced};
 
 use crate::pools::Pools;
-use ptk_gate_boot::{Memories, Roster, Trace};
+use ptk_gate_memory::{Memories, Roster, Trace};
 use ptk_threads::Work;
 use ptk_words::{Entry, PartId, Policy, Thread, ThreadNo, Tick};
 

@@ -11,11 +11,10 @@ ghost use Rattle.ptk_words_model.specs.Schedule.{with_thread, after_wake};
 ghost use Rattle.ptk_words_model.specs.Unwinding.{without_thread};
 ghost use Rattle.ptk_threads.specs.Table.{with_priority, with_wait};
 ghost use Rattle.ptk_words_sync_invariant.specs.Conditions.{IsNoWaiter};
-ghost use Rattle.ptk_gate_waits.specs.LockTables.{AreLocked};
+ghost use Rattle.ptk_cond.specs.LockTables.{AreLocked};
 ghost use Rattle.ptk_gate_pools.specs.Moves.{with_number, with_left};
 
 use crate::pools::Pools;
-use ptk_gate_waits::wake;
 use ptk_threads::{ThreadChange, ThreadField};
 use ptk_words::{Priority, Thread, ThreadNo, Wait};
 
@@ -106,7 +105,7 @@ impl Pools {
     {
         let p = self.hand;
         let had_mutex = is_for_mutex(&self.roster.threads().wait(p, t));
-        wake(&mut self.roster, p, t, values);
+        self.roster.rouse(p, t, values);
         if !had_mutex {
             return;
         }

@@ -5,9 +5,9 @@ use Rattle.ptk_words.specs.declared.sections.Limits.{Limits}
 use Rattle.ptk_words.specs.declared.threads.Thread.{Thread}
 use Rattle.ptk_words_model.specs.State.{Part}
 use Rattle.ptk_words_model.specs.Decision.{word_fetched}
-use Rattle.ptk_words_batches.specs.Quiet.{IsQuiet}
-use Rattle.ptk_words_batches.proofs.PlainDecisions.{quiet_runner}
-use Rattle.ptk_words_batches.proofs.ReplyDecisions.{no_gate}
+use Rattle.ptk_words_laws.specs.Quiet.{IsQuiet}
+use Rattle.ptk_words_laws.proofs.PlainDecisions.{quiet_runner}
+use Rattle.ptk_words_laws.proofs.ReplyDecisions.{no_gate}
 use Rattle.ptk_gate_steps.specs.NextSteps.{IsCallNext}
 
 pub call_next : (limits : Limits) (tick stop t : ℕ) (thread : Thread) (s : Part) → IsQuiet limits tick stop t thread s → word_fetched s.memory thread.cpu.pc ≡ ECALL → IsCallNext t s

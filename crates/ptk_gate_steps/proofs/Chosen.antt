@@ -8,7 +8,7 @@ use Rattle.ptk_words_model.specs.State.{Part, with_locks}
 use Rattle.ptk_words_model.specs.Priority.{effective_priority}
 use Rattle.ptk_words_model.specs.Schedule.{first_ready, at_head, after_dispatch, after_choice_between, after_choice}
 use Rattle.ptk_words_sync_invariant.proofs.Greatest.{member_le}
-use Rattle.ptk_words_batches.specs.Quiet.{stays_before}
+use Rattle.ptk_words_laws.specs.Quiet.{stays_before}
 use Rattle.ptk_gate_steps.specs.Chosen.{IsChosen}
 
 -- ---- the first of greatest rank

@@ -6,7 +6,7 @@ use Rattle.ptk_words.proofs.Lists.{empty_from_length}
 use Rattle.ptk_words_model.specs.State.{Part}
 use Rattle.ptk_words.specs.Faults.{is_active}
 use Rattle.ptk_words_invariant.specs.Well.{IsWell}
-use Rattle.ptk_words_batches.specs.Idle.{IsIdle}
+use Rattle.ptk_words_laws.specs.Idle.{IsIdle}
 use Rattle.ptk_gate_steps.specs.QuietStops.{before_event}
 use Rattle.ptk_gate_steps.proofs.QuietStops.{none_comes_before, none_expires_before, event_no_later}
 

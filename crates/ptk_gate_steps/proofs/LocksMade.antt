@@ -29,8 +29,8 @@ use Rattle.ptk_words_model.specs.CallTable.{answer_to}
 use Rattle.ptk_words_model.specs.Steps.{Row, readable, mutex_named}
 use Rattle.ptk_words_model.specs.Decision.{with_thread_cpu, invocation}
 use Rattle.ptk_words_invariant.specs.Rests.{lock_by, unlock_named}
-use Rattle.ptk_mutex_priorities.specs.Plain.{is_sound, is_takeable, is_releasable}
-use Rattle.ptk_mutex_priorities.proofs.Plain.{takeable_plain, releasable_plain}
+use Rattle.ptk_roster.specs.Plain.{is_sound, is_takeable, is_releasable}
+use Rattle.ptk_roster.proofs.Plain.{takeable_plain, releasable_plain}
 use Rattle.ptk_rv32i.specs.Effects.{at_pc}
 use Rattle.ptk_gate_moves.specs.Held.{Held, limits_here}
 use Rattle.ptk_gate_steps.specs.Replies.{Takes, Releases, IsMade, IsPut, caught_up}

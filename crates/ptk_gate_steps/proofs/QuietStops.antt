@@ -20,8 +20,8 @@ use Rattle.ptk_words.specs.Faults.{is_active}
 use Rattle.ptk_words_sync_invariant.specs.Locks.{used_of}
 use Rattle.ptk_words_sync_invariant.proofs.Lined.{ready_alive}
 use Rattle.ptk_words_invariant.specs.Well.{IsWell}
-use Rattle.ptk_words_batches.specs.Quiet.{stays_before, IsQuiet}
-use Rattle.ptk_words_batches.proofs.Arrivals.{none_before}
+use Rattle.ptk_words_laws.specs.Quiet.{stays_before, IsQuiet}
+use Rattle.ptk_words_laws.proofs.Arrivals.{none_before}
 use Rattle.ptk_gate_moves.proofs.Ready.{lined_in_use}
 use Rattle.ptk_words_model.specs.Withdrawal.{deadlines_of, due}
 use Rattle.ptk_gate_steps.specs.QuietStops.{before_input, before_event, quiet_stop}

@@ -16,10 +16,10 @@ use Rattle.ptk_words_model.specs.Priority.{thread_at, effective_priority}
 use Rattle.ptk_words_model.specs.Schedule.{with_thread, with_thread_used, is_round_robin}
 use Rattle.ptk_words_model.specs.Console.{is_full, with_output}
 use Rattle.ptk_words_model.specs.Decision.{with_thread_cpu}
-use Rattle.ptk_words_batches.specs.Quiet.{computed}
-use Rattle.ptk_words_batches.specs.Replies.{outcome_of, with_outcome}
-use Rattle.ptk_words_batches.proofs.PlainDecisions.{with_registers_of}
-use Rattle.ptk_words_batches.proofs.ReplyDecisions.{fifo_entry, robin_entry}
+use Rattle.ptk_words_laws.specs.Quiet.{computed}
+use Rattle.ptk_words_laws.specs.Replies.{outcome_of, with_outcome}
+use Rattle.ptk_words_laws.proofs.PlainDecisions.{with_registers_of}
+use Rattle.ptk_words_laws.proofs.ReplyDecisions.{fifo_entry, robin_entry}
 use Rattle.ptk_console.specs.ConsoleTable.{after_put}
 use Rattle.ptk_gate_moves.proofs.PlainMutexes.{effective-plain}
 use Rattle.ptk_gate_steps.specs.Steady.{is_contended}

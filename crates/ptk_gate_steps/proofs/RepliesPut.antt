@@ -25,8 +25,8 @@ use Rattle.ptk_words_model.specs.Calls.{Answer, replied, refusal, success, cance
 use Rattle.ptk_words_model.specs.CallTable.{answer_to}
 use Rattle.ptk_words_model.specs.Decision.{with_thread_cpu, invocation}
 use Rattle.ptk_words_sync_invariant.proofs.Threads.{changed_same}
-use Rattle.ptk_words_batches.specs.Quiet.{computed}
-use Rattle.ptk_words_batches.proofs.PlainDecisions.{with_registers_of}
+use Rattle.ptk_words_laws.specs.Quiet.{computed}
+use Rattle.ptk_words_laws.proofs.PlainDecisions.{with_registers_of}
 use Rattle.ptk_rv32i.specs.Effects.{at_pc}
 use Rattle.ptk_console.specs.ConsoleTable.{after_put}
 use Rattle.ptk_gate_moves.specs.Held.{Held, limits_here}

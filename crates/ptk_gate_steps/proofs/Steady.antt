@@ -6,13 +6,13 @@ use Rattle.ptk_words.specs.Processor.{Processor}
 use Rattle.ptk_words.specs.declared.sections.Entry.{Entry}
 use Rattle.ptk_words.specs.declared.sections.Limits.{Limits}
 use Rattle.ptk_words.specs.declared.threads.Thread.{Thread}
-use Rattle.ptk_words_instructions.specs.PlainSteps.{Core, core}
+use Rattle.ptk_words_model.specs.PlainSteps.{Core, core}
 use Rattle.ptk_words_model.specs.State.{Part}
 use Rattle.ptk_words_model.specs.Mutex.{mutex_at}
 use Rattle.ptk_words_sync_invariant.proofs.Threads.{changed_same}
-use Rattle.ptk_words_batches.specs.Quiet.{computed, with_row, after_row}
-use Rattle.ptk_words_batches.specs.Replies.{IsReply, Outcome, after_reply, reply_entry, with_outcome}
-use Rattle.ptk_words_batches.proofs.QuietRows.{same_rank}
+use Rattle.ptk_words_laws.specs.Quiet.{computed, with_row, after_row}
+use Rattle.ptk_words_laws.specs.Replies.{IsReply, Outcome, after_reply, reply_entry, with_outcome}
+use Rattle.ptk_words_laws.proofs.QuietRows.{same_rank}
 use Rattle.ptk_gate_steps.specs.Steady.{IsOfRunning, IsSteady, at_rest, is_contended}
 
 pub steady_same : (s : Part) → IsSteady s s

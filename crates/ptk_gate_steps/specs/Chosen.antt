@@ -4,7 +4,7 @@ use Rattle.ptk_words.specs.Names.{ThreadNumber}
 use Rattle.ptk_words_model.specs.State.{Part}
 use Rattle.ptk_words_model.specs.Priority.{effective_priority}
 use Rattle.ptk_words_model.specs.Schedule.{first_ready}
-use Rattle.ptk_words_batches.specs.Quiet.{stays_before}
+use Rattle.ptk_words_laws.specs.Quiet.{stays_before}
 
 -- the running thread, if one runs, stays before the first of the line (XSH 2.8.4)
 abbrev pub IsChosen : Part → Type 0

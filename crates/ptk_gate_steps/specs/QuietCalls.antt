@@ -16,7 +16,7 @@ use Rattle.ptk_words_model.specs.Condition.{condition_waiters}
 use Rattle.ptk_words_model.specs.Priority.{thread_at}
 use Rattle.ptk_words_model.specs.Calls.{is_pointer}
 use Rattle.ptk_words_model.specs.Decision.{word_fetched}
-use Rattle.ptk_mutex_priorities.specs.Plain.{is_takeable, is_releasable}
+use Rattle.ptk_roster.specs.Plain.{is_takeable, is_releasable}
 
 -- the mutex whose number is the word at the pointer, None where there is none; no partition has more than 64 (pthread_mutex_lock; own)
 abbrev pub mutex_pointed : Word → Part → Option Mutex

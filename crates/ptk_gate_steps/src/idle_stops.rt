@@ -3,7 +3,7 @@
 ghost use Rattle.std.specs.Prelude.{◌≡◌, ℕ, ◌≤◌, IfSome};
 ghost use Rattle.std.specs.Option.{IsSomeAnd};
 ghost use Rattle.ptk_words_invariant.specs.Well.{IsWell};
-ghost use Rattle.ptk_words_batches.specs.Idle.{IsIdle};
+ghost use Rattle.ptk_words_laws.specs.Idle.{IsIdle};
 
 use crate::quiet_stops::before_events;
 use ptk_gate_moves::Look;

@@ -1,7 +1,7 @@
 //! The step of an instruction.
 
 ghost use Rattle.std.specs.Prelude.{◌≡◌};
-ghost use Rattle.ptk_words_instructions.specs.Instructions.{effect_at};
+ghost use Rattle.ptk_words_model.specs.Instructions.{effect_at};
 ghost use Rattle.ptk_gate_steps.specs.Instructions.{after_instruction, settled};
 
 use ptk_gate_moves::{Pools, ThreadField, halt};

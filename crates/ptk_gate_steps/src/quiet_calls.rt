@@ -15,7 +15,7 @@ ghost use Rattle.ptk_words.specs.declared.threads.Thread.{Thread};
 ghost use Rattle.ptk_words_model.specs.Calls.{is_pointer};
 ghost use Rattle.ptk_words_model.specs.Mutex.{mutex_at};
 ghost use Rattle.ptk_words_model.specs.Priority.{thread_at};
-ghost use Rattle.ptk_mutex_priorities.specs.Plain.{is_releasable, is_takeable};
+ghost use Rattle.ptk_roster.specs.Plain.{is_releasable, is_takeable};
 ghost use Rattle.ptk_gate_steps.specs.QuietCalls.{has_request, is_quiet_with, is_unwaited_at, mutex_pointed};
 ghost use Rattle.ptk_gate_steps.specs.Replies.{IsMade};
 

@@ -8,7 +8,7 @@ ghost use Rattle.ptk_words_model.specs.Priority.{thread_at, effective_priority};
 ghost use Rattle.ptk_words_model.specs.Schedule.{first_ready};
 ghost use Rattle.ptk_words.specs.Faults.{is_active};
 ghost use Rattle.ptk_words_invariant.specs.Well.{IsWell};
-ghost use Rattle.ptk_words_batches.specs.Quiet.{stays_before, IsQuiet};
+ghost use Rattle.ptk_words_laws.specs.Quiet.{stays_before, IsQuiet};
 ghost use Rattle.ptk_gate_steps.specs.Chosen.{IsChosen};
 ghost use Rattle.ptk_gate_steps.specs.QuietStops.{before_event, quiet_stop};
 

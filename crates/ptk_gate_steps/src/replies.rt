@@ -8,7 +8,7 @@ ghost use Rattle.ptk_words.specs.declared.threads.Thread.{Thread};
 ghost use Rattle.ptk_words_model.specs.Priority.{thread_at};
 ghost use Rattle.ptk_words_model.specs.Schedule.{with_thread};
 ghost use Rattle.ptk_words_model.specs.State.{with_locks};
-ghost use Rattle.ptk_words_batches.specs.Quiet.{computed};
+ghost use Rattle.ptk_words_laws.specs.Quiet.{computed};
 ghost use Rattle.ptk_gate_steps.specs.QuietCalls.{is_quiet_with};
 ghost use Rattle.ptk_gate_steps.specs.NextSteps.{next_kind_of};
 ghost use Rattle.ptk_gate_steps.specs.Replies.{IsMade};

@@ -5,13 +5,13 @@ ghost use Rattle.ptk_words_model.specs.Mutex.{mutex_at};
 ghost use Rattle.ptk_words_model.specs.Condition.{names_mutex};
 ghost use Rattle.ptk_words_model.specs.MutexCalls.{is_locked, mutex_destroy};
 ghost use Rattle.ptk_words_invariant.specs.Well.{IsWell};
-ghost use Rattle.ptk_mutex_priorities.specs.Slots.{mutex_with};
+ghost use Rattle.ptk_roster.specs.Slots.{mutex_with};
 ghost use Rattle.ptk_gate_moves.specs.Held.{limits_here};
 ghost use Rattle.ptk_words_invariant.specs.Rests.{destroy_named};
 
 use crate::naming::named_mutex;
 use ptk_gate_moves::{Pools, refuse, succeed};
-use ptk_mutex_priorities::MutexState;
+use ptk_roster::MutexState;
 use ptk_words::{DESTROYED, Errno, MutexNo, Owner};
 use ptk_words_model::{Invocation, Reply};
 

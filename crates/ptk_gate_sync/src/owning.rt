@@ -5,12 +5,12 @@ ghost use Rattle.ptk_words_model.specs.Mutex.{mutex_at};
 ghost use Rattle.ptk_words_model.specs.MutexCalls.{mutex_unlock, is_inconsistent, is_repairable, mutex_consistent};
 ghost use Rattle.ptk_words_invariant.specs.Rests.{unlock_named, consistent_named};
 ghost use Rattle.ptk_words_invariant.specs.Well.{IsWell};
-ghost use Rattle.ptk_mutex_priorities.specs.Slots.{mutex_with};
+ghost use Rattle.ptk_roster.specs.Slots.{mutex_with};
 ghost use Rattle.ptk_gate_moves.specs.Held.{limits_here};
 
 use crate::naming::named_mutex;
 use ptk_gate_moves::{Pools, refuse, succeed};
-use ptk_mutex_priorities::MutexState;
+use ptk_roster::MutexState;
 use ptk_words::{Errno, MutexNo, Soundness};
 use ptk_words_model::{Invocation, Reply};
 

@@ -6,3 +6,11 @@ pub mod Endings
 pub mod Handlers
 pub mod Absent
 pub use Rattle.ptk_gate_moves.proofs.Ready
+pub mod ArrivalLoop
+pub mod ArrivalSteps
+pub mod ExpiryLoop
+pub mod CleanupHandlers
+pub mod Requested
+pub mod Rings
+pub mod Stores
+pub mod Withdrawals

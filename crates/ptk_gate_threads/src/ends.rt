@@ -8,7 +8,7 @@ ghost use Rattle.ptk_words_model.specs.Unwinding.{is_alive, after_join_by, after
 ghost use Rattle.ptk_words_sync_invariant.specs.Locks.{joiner_of};
 ghost use Rattle.ptk_words_invariant.specs.Well.{IsWell};
 ghost use Rattle.ptk_words.specs.Pools.{is_in};
-ghost use Rattle.ptk_threads_slots.specs.Links.{threads_of};
+ghost use Rattle.ptk_threads.specs.Links.{threads_of};
 ghost use Rattle.ptk_gate_moves.specs.Held.{limits_here};
 ghost use Rattle.ptk_words_sync_invariant.specs.Conditions.{IsNoWaiter};
 ghost use Rattle.ptk_gate_moves.specs.Moves.{stopped};

@@ -10,7 +10,7 @@ use Rattle.ptk_words.specs.Processor.{Processor, with_register}
 use Rattle.ptk_words.specs.Words.{word_of, sign_extension, word_at, bytes_at, with_bytes}
 use Rattle.ptk_words.specs.declared.TheConstants.{ECALL}
 use Rattle.ptk_words.specs.declared.faults.FaultKind.TheVariants.{Fetch, Load, Store, Misaligned}
-use Rattle.ptk_words_instructions.specs.Instructions.{Name, Jal, Jalr, Beq, Bne, Blt, Bge, Bltu, Bgeu, Lb, Lh, Lw, Lbu, Lhu, Sb, Sh, Sw, Ecall, InstructionRow, instruction_table, agrees, Execution, Effect, Done, Call, Break, Fault, with_next_pc, write_effect, jump_effect, branch_effect, address_of, load_effect, store_effect, effect, effect_of_word, can_fetch, decode_of, effect_at}
+use Rattle.ptk_words_model.specs.Instructions.{Name, Jal, Jalr, Beq, Bne, Blt, Bge, Bltu, Bgeu, Lb, Lh, Lw, Lbu, Lhu, Sb, Sh, Sw, Ecall, InstructionRow, instruction_table, agrees, Execution, Effect, Done, Call, Break, Fault, with_next_pc, write_effect, jump_effect, branch_effect, address_of, load_effect, store_effect, effect, effect_of_word, can_fetch, decode_of, effect_at}
 use Rattle.ptk_words_model.specs.Decision.{word_fetched}
 
 -- the effect is that of an ECALL

@@ -7,7 +7,7 @@ use Rattle.ptk_words.specs.Words.{word_of}
 use Rattle.ptk_words.specs.declared.TheConstants.{A0, A7, ECALL, RETURN_GATE}
 use Rattle.ptk_words.specs.declared.sections.Limits.{Limits}
 use Rattle.ptk_words.specs.declared.threads.Thread.{Thread}
-use Rattle.ptk_words_instructions.specs.Instructions.{Effect, effect_at, with_next_pc}
+use Rattle.ptk_words_model.specs.Instructions.{Effect, effect_at, with_next_pc}
 use Rattle.ptk_words_model.specs.declared.Runner.{Runner}
 use Rattle.ptk_words_model.specs.declared.Spent.TheVariants.{Step, Idle, Lost}
 use Rattle.ptk_words_model.specs.declared.StepKind.{StepKind}

@@ -1,7 +1,7 @@
 -- A quiet partition.
 use Rattle.std.specs.Prelude.{ℕ}
 use Rattle.ptk_words.specs.declared.threads.Thread.{Thread}
-use Rattle.ptk_words_batches.specs.Quiet.{IsQuiet}
+use Rattle.ptk_words_laws.specs.Quiet.{IsQuiet}
 use Rattle.ptk_gate.specs.Quiet.{Quiet}
 use Rattle.ptk_gate.specs.Kept.{Kept, limits_at, part_at}
 pub use Rattle.ptk_gate.specs.Chosen.{IsChosen}

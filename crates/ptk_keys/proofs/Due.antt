@@ -7,7 +7,7 @@ use Rattle.std.proofs.lemmas.List.Elements.{filter-append}
 use Rattle.std.proofs.lemmas.Bool.{lt-ltb}
 use Rattle.ptk_words.specs.Pools.{numbered, numbers_to}
 use Rattle.ptk_words.specs.declared.TheConstants.{DESTRUCTOR_ROUNDS}
-use Rattle.ptk_words_parted.specs.Parts.{part_of}
+use Rattle.ptk_words.specs.Parts.{part_of}
 use Rattle.ptk_words_model.specs.declared.Rounds.{Rounds}
 use Rattle.ptk_words_model.specs.Keys.{DestructorCall, destructor_call, values_of, is_due, due_keys, due_in_round, due_in_next_round, next_destructor}
 use Rattle.ptk_keys.specs.KeptKeys.{KeptKeys, keys_at, keys_of}

@@ -3,7 +3,7 @@ use Rattle.std.proofs.Common.{arith, ◌≡◌, ℕ, ◌-◌, ◌<◌, ◌≤◌
 use Rattle.std.specs.Prelude.{slice_set}
 use Rattle.std.proofs.lemmas.List.{set_past}
 use Rattle.ptk_words.proofs.Pools.{pool_set_below}
-use Rattle.ptk_words_parted.proofs.Entries.{numbered_below, updated_at, updated_past, updated_to}
+use Rattle.ptk_words.proofs.Entries.{numbered_below, updated_at, updated_past, updated_to}
 
 pub ruleset numbers = (numbered_below, pool_set_below, updated_at, updated_past, add-one, set_past)
 

@@ -5,12 +5,12 @@ use Rattle.std.proofs.lemmas.List.{length-map, length-replicate, length-set, set
 use Rattle.std.proofs.lemmas.List.Elements.{All-head, All-tail}
 use Rattle.ptk_words.specs.declared.sections.Limits.{Limits}
 use Rattle.ptk_words.proofs.Pools.{length-pool_set, length-update}
-use Rattle.ptk_words_parted.specs.Parts.{part_of}
-use Rattle.ptk_words_parted.specs.Cuts.{lent}
-use Rattle.ptk_words_parted.proofs.Cuts.{lent-same, set_part-same}
+use Rattle.ptk_words.specs.Parts.{part_of}
+use Rattle.ptk_words.specs.Cuts.{lent}
+use Rattle.ptk_words.proofs.Cuts.{lent-same, set_part-same}
 use Rattle.ptk_words_model.specs.declared.Rounds.{Rounds}
 use Rattle.ptk_keys.specs.KeptKeys.{AreKept}
-use Rattle.ptk_words_parted.proofs.Entries.{filled_per, length_part-set}
+use Rattle.ptk_words.proofs.Entries.{filled_per, length_part-set}
 
 -- ---- a loan of one partition's list that keeps its length
 

@@ -3,7 +3,7 @@ use Rattle.std.specs.Prelude.{◌≡◌, ℕ, ◌≤◌, List, [], length, map, 
 use Rattle.ptk_words.specs.Names.{Pointer, ThreadNumber, Word}
 use Rattle.ptk_words.specs.Pools.{least_free}
 use Rattle.ptk_words.specs.declared.sections.Limits.{Limits}
-use Rattle.ptk_words_parted.specs.Parts.{part_of}
+use Rattle.ptk_words.specs.Parts.{part_of}
 use Rattle.ptk_words_model.specs.declared.Rounds.{Rounds}
 use Rattle.ptk_words_model.specs.State.{Keys}
 use Rattle.ptk_words_model.specs.Keys.{no_rounds, no_values, values_of, with_key, with_new_specific}

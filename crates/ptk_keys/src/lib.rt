@@ -10,7 +10,7 @@
 //!
 //! Room for all is made by `KeyTable::build` alone. Every call but the constructor is total in all but the partition: a
 //! word that is no key has the value 0, and setting something of it changes nothing. Below are `ptk_words`,
-//! `ptk_words_parted` and `ptk_words_model`; above, `ptk_gate_pools` has it as one of its pools. Costly to prove is
+//! `ptk_words` and `ptk_words_model`; above, `ptk_gate_pools` has it as one of its pools. Costly to prove is
 //! that the least key whose destructor is due is found (`proofs/Due`).
 
 mod destructors;

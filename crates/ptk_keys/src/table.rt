@@ -2,7 +2,7 @@
 
 ghost use Rattle.std.specs.Prelude.{◌≡◌, ◌<◌, ◌≤◌, None, length, map, replicate, slice_set, All, IfOk};
 ghost use Rattle.ptk_words.specs.Pools.{least_free, pool_set, pool_update};
-ghost use Rattle.ptk_words_parted.specs.Parts.{part_of};
+ghost use Rattle.ptk_words.specs.Parts.{part_of};
 ghost use Rattle.ptk_words_model.specs.Keys.{no_rounds, no_values, is_key, specific, destructor_of, next_destructor, values_of, with_values, with_rounds, with_key, with_first_round, after_destructor_call};
 ghost use Rattle.ptk_keys.specs.KeptKeys.{keys_at, put_keys, fresh_keys, with_new_key, with_cleared};
 
@@ -10,9 +10,8 @@ use crate::destructors::{DestructorCall, next_call};
 use crate::numbers::{KeyNo, destructor_at, first_free, set_destructor_at, value_at};
 use crate::rounds::{begin_in, rounds_in, set_rounds_in};
 use crate::values::{ThreadValues, clear_in, clear_key_in, set_in, values_by_thread, values_in};
-use ptk_words::{Limits, PartId, Phase, ThreadNo};
+use ptk_words::{Limits, PartId, Parted, Phase, ThreadNo};
 use ptk_words_model::{Rounds, thread_counts_of};
-use ptk_words_parted::Parted;
 use std::alloc::{AllocError, Global};
 use std::marker::Model;
 

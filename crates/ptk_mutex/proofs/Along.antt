@@ -2,8 +2,8 @@
 use Rattle.std.proofs.Common.{◌≡◌, ℕ, zero, suc, ◌<◌, List, length, get_or, max, Bool, true, false, refl, ◌∙◌, arith}
 use Rattle.std.specs.Prelude.{◌==◌, ◌||◌, if◌then◌else◌, Option, Some, None, option_map, unwrap_or}
 use Rattle.ptk_words_model.specs.Chain.{leads_to}
-use Rattle.ptk_mutex_priorities.specs.Raised.{raised}
-use Rattle.ptk_mutex_priorities.proofs.Levels.{length-raised, raised_at}
+use Rattle.ptk_roster.specs.Raised.{raised}
+use Rattle.ptk_roster.proofs.LevelLists.{length-raised, raised_at}
 
 -- u and the numbers that at most so many steps of its chain lead to have at least this priority
 abbrev pub raised_along : (ℕ → Option ℕ) → ℕ → ℕ → ℕ → List ℕ → List ℕ

@@ -16,7 +16,7 @@ use Rattle.ptk_words.specs.declared.mutexes.Owner.TheVariants.{Free, Abandoned, 
 use Rattle.ptk_words.specs.declared.mutexes.Soundness.{Soundness}
 use Rattle.ptk_words.specs.declared.mutexes.Soundness.TheVariants.{Consistent, Inconsistent, Unrecoverable}
 use Rattle.ptk_words.proofs.Lists.{out_push}
-use Rattle.ptk_words.proofs.Pools.{changed_own, changed_other, get-set_other, pool_set_all}
+use Rattle.ptk_words.proofs.Pools.{changed_own, changed_other, pool_set_all}
 use Rattle.ptk_words_model.specs.State.{Mutex, Condition, Locks}
 use Rattle.ptk_words_model.specs.declared.LockMove.{LockMove}
 use Rattle.ptk_words_model.specs.declared.LockMove.TheVariants.{Takes, Recovers, Counts, Waits, Refuses}
@@ -30,7 +30,7 @@ use Rattle.ptk_words_sync_invariant.proofs.Conditions.{condition_wait, room_map,
 use Rattle.ptk_words_sync_invariant.proofs.MutexPlaces.{pool_set_same}
 use Rattle.ptk_words_sync_invariant.proofs.Rooms.{counts_owner, roomy_joined, roomy_left, roomy_soundness, free_counts}
 use Rattle.ptk_words_sync_invariant.proofs.ConditionWaits.{down_below}
-use Rattle.ptk_mutex_priorities.specs.declared.slot.Change.TheVariants.{Abandon, Release, Mark}
+use Rattle.ptk_roster.specs.declared.slot.Change.TheVariants.{Abandon, Release, Mark}
 use Rattle.ptk_mutex.specs.Tables.{AreLocked, IsWaiter, MayGet, MayWait}
 use Rattle.ptk_mutex.specs.Moves.{after_assignment, after_withdrawal}
 use Rattle.ptk_mutex.specs.Sound.{AreWaiting, IsOnCondition}
@@ -82,7 +82,7 @@ calm_hand_to m (Some t) locks may =
 calm_hand_over : (m : ℕ) (locks : Locks) → AreLocked locks → IsCalm m locks (after_hand_over m locks)
 calm_hand_over m locks locked = calm_hand_to m (heir m locks) locks (heir_may_get m locks (heir m locks) locked refl)
 
-calm_refuse_to : (m : ℕ) (next : Option ℕ) (locks : Locks) → MayGet next locks m → IsCalm m locks (after_refusal_to next m locks)
+pub calm_refuse_to : (m : ℕ) (next : Option ℕ) (locks : Locks) → MayGet next locks m → IsCalm m locks (after_refusal_to next m locks)
 calm_refuse_to m None locks may = calm_none m locks
 calm_refuse_to m (Some t) locks may = calm_left m t (handed (Refuses ENOTRECOVERABLE)) locks may.waits
 
@@ -361,7 +361,7 @@ apart_either : (b : Bool) (a first second : Locks) (k : ℕ) → IsApart a first
 apart_either true a first second k one other = one
 apart_either false a first second k one other = other
 
-apart_mutex_end : (t m k : ℕ) (x : Option Mutex) (locks : Locks) → AreLocked locks → awaited (thread_at locks k) ≡ None → IsApart locks (after_mutex_end t x m locks) k
+pub apart_mutex_end : (t m k : ℕ) (x : Option Mutex) (locks : Locks) → AreLocked locks → awaited (thread_at locks k) ≡ None → IsApart locks (after_mutex_end t x m locks) k
 apart_mutex_end t m k None locks locked none = apart_none k locks
 apart_mutex_end t m k (Some mutex) locks locked none =
     apart_either (is_owner t mutex.owner) locks (if mutex.is_robust then after_bequest m locks else after_abandonment m locks) locks k
@@ -401,10 +401,6 @@ apart_opened m k kind protocol is_robust locks = apart_entry m k (Some (new_mute
 
 pub apart_closed : (m k : ℕ) (locks : Locks) → IsApart locks (record locks { mutexes = pool_set locks.mutexes m None }) k
 apart_closed m k locks = apart_entry m k None locks (λ counts. let no : ⊥ = cc in absurd no)
-
--- another thread's number is taken
-pub apart_created : (n k : ℕ) (x : Option Thread) (locks : Locks) → k ≢ n → IsApart locks (record locks { threads = pool_set locks.threads n x }) k
-apart_created n k x locks ne = record { thread = get-set_other n k x locks.threads ne; out = λ out. out; room = λ m room. room }
 
 -- ---- who waits on condition variables
 

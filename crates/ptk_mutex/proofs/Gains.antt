@@ -4,10 +4,10 @@ use Rattle.std.specs.Prelude.{Option, ◌⊎◌, if◌then◌else◌}
 use Rattle.std.proofs.lemmas.Bool.{cases_eq}
 use Rattle.ptk_words.proofs.Options.{max_cases}
 use Rattle.ptk_words_model.specs.Chain.{Leads, leads_to, greatest_leading}
-use Rattle.ptk_mutex_priorities.specs.Raised.{risen}
+use Rattle.ptk_roster.specs.Raised.{risen}
 use Rattle.ptk_words_sync_invariant.proofs.ChainLaws.{false_true, reaches_sound, chain_complete, IsNumber, IsBounded}
-use Rattle.ptk_mutex_priorities.proofs.Levels.{numbered_all}
-use Rattle.ptk_mutex_priorities.proofs.Tops.{IsTop, top-unique, greatest_leading-top}
+use Rattle.ptk_roster.proofs.LevelLists.{numbered_all}
+use Rattle.ptk_roster.proofs.Tops.{IsTop, top-unique, greatest_leading-top}
 use Rattle.ptk_mutex.proofs.Along.{raised_along, raised_along_at, length-raised_along}
 use Rattle.ptk_mutex.proofs.Rises.{risen-is}
 use Rattle.ptk_mutex.proofs.Joins.{priorities, length-priorities, priority_at, within_priorities, step_up, ReachedBy}

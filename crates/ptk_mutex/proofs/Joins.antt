@@ -4,13 +4,13 @@ use Rattle.std.specs.Prelude.{Option, Some, None, ◌⊎◌, option_and_then, if
 use Rattle.ptk_words.specs.Pools.{numbers_to}
 use Rattle.ptk_words.proofs.Options.{max_cases}
 use Rattle.ptk_words_model.specs.Chain.{steps_from, Leads, leads_to, greatest_leading}
-use Rattle.ptk_mutex_priorities.specs.Raised.{risen}
+use Rattle.ptk_roster.specs.Raised.{risen}
 use Rattle.ptk_threads.specs.Table.{stored_of}
 use Rattle.ptk_words_sync_invariant.proofs.ChainLaws.{false_true, none_some, reaches_sound, chain_complete, IsNumber, IsBounded}
-use Rattle.ptk_mutex_priorities.proofs.Levels.{length-numbered, numbered_at, numbered_of, numbered_all}
-use Rattle.ptk_mutex_priorities.proofs.Tops.{IsTop, top-unique, greatest_leading-top, led_on, rising}
-use Rattle.ptk_mutex_priorities.proofs.Risen.{IsPlace, IsWithin}
-use Rattle.ptk_mutex_priorities.proofs.Sweeps.{place_number, number_place}
+use Rattle.ptk_roster.proofs.LevelLists.{length-numbered, numbered_at, numbered_of, numbered_all}
+use Rattle.ptk_roster.proofs.Tops.{IsTop, top-unique, greatest_leading-top, led_on, rising}
+use Rattle.ptk_roster.proofs.Risen.{IsPlace, IsWithin}
+use Rattle.ptk_roster.proofs.Sweeps.{place_number, number_place}
 use Rattle.ptk_mutex.proofs.Along.{raised_along, raised_along_at, length-raised_along}
 use Rattle.ptk_mutex.proofs.Rises.{risen-is}
 

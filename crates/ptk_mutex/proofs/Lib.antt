@@ -20,4 +20,5 @@ pub mod Unraised
 pub mod Sound
 pub mod Awake
 pub mod Passed
-pub mod Created
+pub mod WokenSets
+pub mod WokenMoves

@@ -17,12 +17,12 @@ use Rattle.ptk_mutex.specs.Moves.{after_assignment}
 use Rattle.ptk_words_model.specs.State.{Mutex, Locks}
 use Rattle.ptk_words_model.specs.Priority.{awaited, thread_at, effective_of, effective_priority, effective_priorities}
 use Rattle.ptk_words_model.specs.Schedule.{at_tail_with}
-use Rattle.ptk_threads_slots.specs.Changes.{few_of}
-use Rattle.ptk_threads_slots.proofs.Along.{in_later}
-use Rattle.ptk_threads_slots.specs.declared.thread_list.Members.TheVariants.{NoMember, OnlyMember}
+use Rattle.ptk_threads.specs.LinkChanges.{few_of}
+use Rattle.ptk_threads.proofs.Along.{in_later}
+use Rattle.ptk_threads.specs.declared.thread_list.Members.TheVariants.{NoMember, OnlyMember}
 use Rattle.ptk_threads.specs.Table.{stored_of}
 use Rattle.ptk_mutex.specs.Tables.{IsWaiter, AreLocked, MayGet}
-use Rattle.ptk_mutex_priorities.proofs.Levels.{length-numbers_to, get_or-numbers_to}
+use Rattle.ptk_roster.proofs.LevelLists.{length-numbers_to, get_or-numbers_to}
 
 -- ---- one that waits
 

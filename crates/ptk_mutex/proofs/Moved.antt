@@ -7,20 +7,20 @@ use Rattle.ptk_words.proofs.Pools.{changed_own, changed_twice}
 use Rattle.ptk_words_model.specs.State.{Mutex, Locks}
 use Rattle.ptk_words_model.specs.Priority.{effective_priority}
 use Rattle.ptk_words_model.specs.Mutex.{waiters_of, soundness_of, free_move, move_reply, kept_reply, handed, heir, owns, after_mutex_end}
-use Rattle.ptk_words_parted.specs.Parts.{part_of}
+use Rattle.ptk_words.specs.Parts.{part_of}
 use Rattle.ptk_threads.specs.Table.{ThreadTable, stored_of}
 use Rattle.ptk_threads.proofs.Pools.{part_of-set}
-use Rattle.ptk_mutex_priorities.specs.declared.slot.Change.TheVariants.{Mark}
-use Rattle.ptk_mutex_priorities.specs.Changes.{mutex_changed}
+use Rattle.ptk_roster.specs.declared.slot.Change.TheVariants.{Mark}
+use Rattle.ptk_roster.specs.Changes.{mutex_changed}
 use Rattle.ptk_words.specs.declared.threads.Thread.{Thread}
 use Rattle.ptk_words.specs.declared.mutexes.Soundness.TheVariants.{Inconsistent}
 use Rattle.ptk_words_model.specs.declared.LockMove.{LockMove}
 use Rattle.ptk_words_model.specs.declared.LockMove.TheVariants.{Recovers}
 use Rattle.ptk_words_model.specs.Schedule.{woken_with}
-use Rattle.ptk_threads_slots.specs.Changes.{few_of}
-use Rattle.ptk_threads_slots.specs.declared.thread_list.Members.{Members}
-use Rattle.ptk_threads_slots.specs.declared.thread_list.Members.TheVariants.{NoMember, OnlyMember}
-use Rattle.ptk_words_parted.proofs.Cuts.{set_part-same}
+use Rattle.ptk_threads.specs.LinkChanges.{few_of}
+use Rattle.ptk_threads.specs.declared.thread_list.Members.{Members}
+use Rattle.ptk_threads.specs.declared.thread_list.Members.TheVariants.{NoMember, OnlyMember}
+use Rattle.ptk_words.proofs.Cuts.{set_part-same}
 use Rattle.ptk_mutex.specs.Tables.{with_threads, MayGet, locks_by, HasPartBy, AreReadyBy}
 use Rattle.ptk_mutex.proofs.Locked.{none_first, only_first, stored_heir, heir_may_get}
 

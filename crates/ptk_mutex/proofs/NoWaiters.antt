@@ -5,7 +5,7 @@ use Rattle.std.proofs.lemmas.Bool.{cases_eq}
 use Rattle.ptk_words.specs.Pools.{pool_get, pool_changed, is_in}
 use Rattle.ptk_words.specs.declared.threads.Wait.{Wait}
 use Rattle.ptk_words.proofs.Pools.{changed_own, changed_other}
-use Rattle.ptk_words_parted.specs.Parts.{part_of}
+use Rattle.ptk_words.specs.Parts.{part_of}
 use Rattle.ptk_words_model.specs.declared.LockMove.{LockMove}
 use Rattle.ptk_words_model.specs.declared.LockMove.TheVariants.{Takes, Recovers, Counts, Waits, Refuses}
 use Rattle.ptk_words_model.specs.State.{Mutex, Condition, Locks}
@@ -14,9 +14,9 @@ use Rattle.ptk_words_model.specs.Mutex.{mutex_at, waiters_of, after_move, is_wai
 use Rattle.ptk_words_sync_invariant.specs.Conditions.{IsNoWaiter}
 use Rattle.ptk_words_sync_invariant.proofs.Threads.{none_awaits}
 use Rattle.ptk_threads.proofs.Pools.{part_of-set}
-use Rattle.ptk_mutex_priorities.specs.declared.slot.Change.TheVariants.{Take, CountUp}
-use Rattle.ptk_mutex_priorities.specs.Changes.{mutex_changed}
-use Rattle.ptk_syncs.specs.Rosters.{Rostered}
+use Rattle.ptk_roster.specs.declared.slot.Change.TheVariants.{Take, CountUp}
+use Rattle.ptk_roster.specs.Changes.{mutex_changed}
+use Rattle.ptk_roster.specs.Rosters.{Rostered}
 use Rattle.ptk_mutex.specs.Tables.{locks_by, put_locks, HasPartBy, AreLocked}
 
 -- ---- a thread that waits for no mutex

@@ -4,27 +4,26 @@ use Rattle.std.specs.Prelude.{Option, Some, None, slice_get}
 use Rattle.std.specs.Option.{option_flatten}
 use Rattle.std.proofs.Math.ListN.{set}
 use Rattle.std.proofs.lemmas.Bool.{cases_eq}
-use Rattle.std.proofs.lemmas.List.{length-set}
 use Rattle.ptk_words.specs.Pools.{pool_get, pool_set, is_in, without}
-use Rattle.ptk_words.proofs.Lists.{without_own}
+use Rattle.ptk_words.proofs.Lists.{in_without, without_own}
 use Rattle.ptk_words.proofs.Pools.{get-set_other}
-use Rattle.ptk_words_parted.specs.Parts.{part_of}
+use Rattle.ptk_words.specs.Parts.{part_of}
 use Rattle.ptk_words_model.specs.State.{Condition}
 use Rattle.ptk_words_model.specs.Priority.{awaited, thread_at}
 use Rattle.ptk_words_model.specs.Mutex.{after_relock}
 use Rattle.ptk_words_model.specs.Condition.{waiters_on}
 use Rattle.ptk_words_sync_invariant.specs.Conditions.{IsNoWaiter}
-use Rattle.ptk_threads_slots.specs.declared.link.Link.{Link}
-use Rattle.ptk_threads_slots.specs.declared.link.Ends.{Ends}
-use Rattle.ptk_threads_slots.specs.Links.{queues, AreQueues}
+use Rattle.ptk_threads.specs.declared.link.Link.{Link}
+use Rattle.ptk_threads.specs.declared.link.Ends.{Ends}
+use Rattle.ptk_threads.specs.Links.{queues, AreQueues}
 use Rattle.ptk_threads.proofs.Linked.{alone}
 use Rattle.ptk_threads.proofs.Pools.{part_of-set}
-use Rattle.ptk_syncs.specs.Rosters.{Rostered, AreQueuesOf}
-use Rattle.ptk_syncs.specs.Waiters.{condition_of}
+use Rattle.ptk_roster.specs.Rosters.{Rostered, AreQueuesOf}
+use Rattle.ptk_roster.specs.Waiters.{condition_of}
 use Rattle.ptk_mutex.specs.Sound.{IsSound}
 use Rattle.ptk_mutex.specs.Tables.{without_condition_waiter}
 use Rattle.ptk_mutex.proofs.NoWaiters.{out_of_mutex}
-use Rattle.ptk_mutex.proofs.Sound.{AreReadyAt, IsLocksMove, of_part, sound_relock}
+use Rattle.ptk_mutex.proofs.Sound.{AreReadyAt, AreSyncedAt, IsLocksMove, of_part, sound_conditions, sound_relock}
 
 -- the condition variables of a partition without the waiter
 abbrev left_row : ℕ → ℕ → List (Option Condition) → List (Option Condition)
@@ -68,10 +67,30 @@ passed_free p t c links ends lists a are is seen ready awake inside lt =
           ∙ left_cases t c d row (λ n ne. alone_on links ends (part_of lists p) row t c n are is (λ k pos. (seen.each p).of_conditions k pos) inside ne) (cases_eq d c);
     }
 
+-- ---- who waits on condition variables still does
+
+left_waiters : (t c d k : ℕ) (row : List (Option Condition)) → (d ≡ c) ⊎ (d ≢ c) → is_in k (waiters_on (pool_get (left_row t c row) d)) ≡ true → is_in k (waiters_on (pool_get row d)) ≡ true
+left_waiters t zero d k row same inside = inside
+left_waiters t (suc i) d k row (inl e) inside =
+    let left : Option Condition = Some (condition_of (without t (waiters_on (pool_get row (suc i))))) in
+    let own : is_in k (waiters_on (pool_get (left_row t (suc i) row) (suc i))) ≡ true = subst (λ (n : ℕ). is_in k (waiters_on (pool_get (left_row t (suc i) row) n)) ≡ true) e inside in
+    subst (λ (n : ℕ). is_in k (waiters_on (pool_get row n)) ≡ true) (sym e)
+    (own_entry (λ (x : Option Condition). is_in k (waiters_on x) ≡ true → is_in k (waiters_on (pool_get row (suc i))) ≡ true) row i left (λ h. let no : ⊥ = cc in absurd no) (λ h. (in_without t k (waiters_on (pool_get row (suc i))) h).1) own)
+left_waiters t (suc i) d k row (inr ne) inside = subst (λ (x : Option Condition). is_in k (waiters_on x) ≡ true) (get-set_other (suc i) d (Some (condition_of (without t (waiters_on (pool_get row (suc i)))))) row ne) inside
+
+sound_left : (p t c : ℕ) (a : Rostered) → p < length a.table.threads → IsSound a → IsSound (without_condition_waiter p t c a)
+sound_left p t c a lt sound =
+    let synced : AreSyncedAt p a = sound.synced p lt in
+    let row : List (Option Condition) = part_of a.conditions p in
+    let left : part_of (without_condition_waiter p t c a).conditions p ≡ left_row t c row = part_of-set a.conditions p (left_row t c row) synced.of_conditions in
+    sound_conditions p (left_row t c row) a
+    (record {
+      waiters = λ d k inside. synced.waiting.waiters d k (left_waiters t c d k row (cases_eq d c) (subst (λ (l : List (Option Condition)). is_in k (waiters_on (pool_get l d)) ≡ true) left inside));
+    }) lt sound
+
 -- ---- so the roster is sound once it waits for the mutex
 
 pub sound_passed : (p t c m : ℕ) (reply : Option ℕ) (a b : Rostered) → (p < length a.conditions → IsNoWaiter t (part_of a.mutexes p) (part_of (without_condition_waiter p t c a).conditions p))
-    → IsLocksMove p (without_condition_waiter p t c a) b (after_relock t m reply (of_part p a).locks) → IsSound (without_condition_waiter p t c a) → IsSound b
+    → IsLocksMove p (without_condition_waiter p t c a) b (after_relock t m reply (of_part p a).locks) → IsSound a → IsSound b
 sound_passed p t c m reply a b free move sound =
-    let lt : p < length a.conditions = rw length-set at (sound.synced p move.before.part.of_threads).of_conditions in
-    sound_relock p t m reply (without_condition_waiter p t c a) b (free lt) move sound
+    sound_relock p t m reply (without_condition_waiter p t c a) b (free (sound.synced p move.before.part.of_threads).of_conditions) move (sound_left p t c a move.before.part.of_threads sound)

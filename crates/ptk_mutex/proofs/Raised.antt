@@ -10,8 +10,8 @@ use Rattle.ptk_words.specs.declared.threads.Wait.{Wait}
 use Rattle.ptk_words.specs.declared.threads.Wait.TheVariants.{RelockWait}
 use Rattle.ptk_words.specs.Threads.{mutex_of_wait}
 use Rattle.ptk_words.proofs.Pools.{changed_twice, changed_own}
-use Rattle.ptk_words_parted.specs.Parts.{part_of}
-use Rattle.ptk_words_parted.proofs.Cuts.{set_part-same}
+use Rattle.ptk_words.specs.Parts.{part_of}
+use Rattle.ptk_words.proofs.Cuts.{set_part-same}
 use Rattle.ptk_words_model.specs.declared.LockMove.{LockMove}
 use Rattle.ptk_words_model.specs.declared.LockMove.TheVariants.{Takes, Recovers, Counts, Waits, Refuses}
 use Rattle.ptk_words_model.specs.State.{Mutex, Locks}
@@ -21,15 +21,15 @@ use Rattle.ptk_words_model.specs.Mutex.{owns, move_reply, after_move, after_wait
 use Rattle.ptk_words_sync_invariant.proofs.Raising.{level_of, woken_awaits}
 use Rattle.ptk_threads.specs.Table.{ThreadTable, thread_in, with_changed, with_wait, with_priority}
 use Rattle.ptk_threads.proofs.Pools.{part_of-set}
-use Rattle.ptk_mutex_priorities.specs.declared.slot.Change.TheVariants.{Take, CountUp, CountDown, Release, Abandon, Mark}
-use Rattle.ptk_mutex_priorities.specs.declared.slot.Change.{Change}
-use Rattle.ptk_mutex_priorities.specs.Changes.{mutex_changed, KeepsOwner}
-use Rattle.ptk_mutex_priorities.specs.Slots.{bare}
-use Rattle.ptk_mutex_priorities.proofs.Bare.{pool_get-bare, inheritor_of-waiters}
-use Rattle.ptk_mutex_priorities.proofs.Raising.{same_owner_raises_alike, keeps_protocol, effective_mutex}
+use Rattle.ptk_roster.specs.declared.slot.Change.TheVariants.{Take, CountUp, CountDown, Release, Abandon, Mark}
+use Rattle.ptk_roster.specs.declared.slot.Change.{Change}
+use Rattle.ptk_roster.specs.Changes.{mutex_changed, KeepsOwner}
+use Rattle.ptk_roster.specs.Slots.{bare}
+use Rattle.ptk_roster.proofs.Bare.{pool_get-bare, inheritor_of-waiters}
+use Rattle.ptk_roster.proofs.Raising.{same_owner_raises_alike, keeps_protocol, effective_mutex}
 use Rattle.ptk_mutex.specs.Moves.{after_change}
-use Rattle.ptk_syncs.specs.Rosters.{Rostered}
-use Rattle.ptk_syncs.specs.Waiters.{waited_by}
+use Rattle.ptk_roster.specs.Rosters.{Rostered}
+use Rattle.ptk_roster.specs.Waiters.{waited_by}
 use Rattle.ptk_mutex.specs.Before.{awake, freed, IsBeforeWait, IsBeforeTake, IsBeforeAssignment}
 use Rattle.ptk_mutex.specs.Visits.{IsVisited}
 use Rattle.ptk_mutex.proofs.Changes.{effective_thread}

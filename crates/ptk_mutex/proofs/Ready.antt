@@ -13,8 +13,8 @@ use Rattle.ptk_words.specs.declared.mutexes.Owner.TheVariants.{Free, Abandoned, 
 use Rattle.ptk_words.specs.declared.mutexes.Protocol.{Protocol}
 use Rattle.ptk_words.specs.declared.mutexes.Protocol.TheVariants.{NoProtocol, Inherit, Protect}
 use Rattle.ptk_words.proofs.Pools.{least_free_none, pool_set_all}
-use Rattle.ptk_words_parted.specs.Parts.{part_of, filled}
-use Rattle.ptk_words_parted.proofs.Cuts.{set_part-same}
+use Rattle.ptk_words.specs.Parts.{part_of, filled}
+use Rattle.ptk_words.proofs.Cuts.{set_part-same}
 use Rattle.ptk_words_model.specs.State.{Mutex, Locks}
 use Rattle.ptk_words_model.specs.Chain.{leads_to, greatest_leading}
 use Rattle.ptk_words_model.specs.Priority.{is_owner, ceiling_of, ceiling_for, inheritor, inheritor_of, assigned_of, held_of, next_in_chain, effective_of, effective_priorities}
@@ -23,8 +23,8 @@ use Rattle.ptk_words_model.specs.MutexCalls.{is_locked}
 use Rattle.ptk_words_sync_invariant.proofs.MutexPlaces.{pool_set_same, effective-set}
 use Rattle.ptk_threads.specs.Table.{ThreadTable, free_table}
 use Rattle.ptk_threads.proofs.Pools.{part_of-set}
-use Rattle.ptk_syncs.specs.Rosters.{seen}
-use Rattle.ptk_mutex_priorities.proofs.Levels.{length-numbers_to}
+use Rattle.ptk_roster.specs.Rosters.{seen}
+use Rattle.ptk_roster.proofs.LevelLists.{length-numbers_to}
 use Rattle.ptk_mutex.specs.Pool.{with_new_mutex}
 use Rattle.ptk_mutex.specs.Tables.{AreLocked, AreReadyBy}
 

@@ -4,7 +4,7 @@ use Rattle.std.specs.Prelude.{Option, Some}
 use Rattle.std.proofs.lemmas.Bool.{lt-leb}
 use Rattle.ptk_words.specs.Pools.{pool_set}
 use Rattle.ptk_threads.specs.Table.{stored_of}
-use Rattle.ptk_mutex_priorities.specs.Raised.{raised, risen}
+use Rattle.ptk_roster.specs.Raised.{raised, risen}
 use Rattle.ptk_mutex.specs.Visits.{reads}
 
 -- a lower priority that is replaced is raised

@@ -3,10 +3,10 @@ use Rattle.std.proofs.Common.{◌≡◌, ◌≢◌, ℕ, zero, suc, ◌≤◌, L
 use Rattle.std.specs.Prelude.{nat_le, if◌then◌else◌, Option, Some, None, option_map, unwrap_or}
 use Rattle.std.proofs.lemmas.Bool.{cases_eq}
 use Rattle.std.proofs.lemmas.Bool.Decides.{nat_tests}
-use Rattle.ptk_mutex_priorities.specs.Raised.{raised, risen}
+use Rattle.ptk_roster.specs.Raised.{raised, risen}
 use Rattle.ptk_threads.specs.Table.{stored_of}
-use Rattle.ptk_mutex_priorities.proofs.Levels.{length-raised}
-use Rattle.ptk_mutex_priorities.proofs.Risen.{IsPlace, IsWithin, raised-same, raised_past, place_or_past, stored-raised_same, stored-raised_other}
+use Rattle.ptk_roster.proofs.LevelLists.{length-raised}
+use Rattle.ptk_roster.proofs.Risen.{IsPlace, IsWithin, raised-same, raised_past, place_or_past, stored-raised_same, stored-raised_other}
 use Rattle.ptk_mutex.proofs.Along.{raised_along}
 
 -- where a number is at least this high, so is the next one of the list, but maybe c

@@ -5,11 +5,11 @@ use Rattle.std.proofs.lemmas.Bool.{cases_lt}
 use Rattle.std.proofs.lemmas.List.{length-set, set-set, set-get_or, set_past, get_or_past, get_or-set_same}
 use Rattle.std.proofs.Math.ListN.{set}
 use Rattle.ptk_words.specs.Pools.{pool_set}
-use Rattle.ptk_words_parted.specs.Parts.{part_of}
+use Rattle.ptk_words.specs.Parts.{part_of}
 use Rattle.ptk_threads.specs.Table.{stored_of, with_stored}
-use Rattle.ptk_syncs.specs.Rosters.{Rostered}
-use Rattle.ptk_mutex_priorities.specs.Raised.{risen}
-use Rattle.ptk_mutex_priorities.proofs.Risen.{risen_stop, length-risen}
+use Rattle.ptk_roster.specs.Rosters.{Rostered}
+use Rattle.ptk_roster.specs.Raised.{risen}
+use Rattle.ptk_roster.proofs.Risen.{risen_stop, length-risen}
 use Rattle.ptk_mutex.specs.Visits.{reads}
 use Rattle.ptk_mutex.specs.Rosters.{with_priorities}
 use Rattle.ptk_mutex.proofs.RiseSteps.{risen_some, reads_some}

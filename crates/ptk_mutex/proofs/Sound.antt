@@ -10,8 +10,8 @@ use Rattle.ptk_words.specs.declared.threads.Wait.{Wait}
 use Rattle.ptk_words.specs.declared.mutexes.MutexKind.{MutexKind}
 use Rattle.ptk_words.specs.declared.mutexes.Protocol.{Protocol}
 use Rattle.ptk_words.specs.declared.mutexes.Soundness.{Soundness}
-use Rattle.ptk_words_parted.specs.Parts.{part_of, filled}
-use Rattle.ptk_words_parted.proofs.Cuts.{set_part-same}
+use Rattle.ptk_words.specs.Parts.{part_of, filled}
+use Rattle.ptk_words.proofs.Cuts.{set_part-same}
 use Rattle.ptk_words_model.specs.declared.LockMove.{LockMove}
 use Rattle.ptk_words_model.specs.declared.LockMove.TheVariants.{Counts}
 use Rattle.ptk_words_model.specs.State.{Condition, Locks, Mutex, Syncs}
@@ -22,8 +22,8 @@ use Rattle.ptk_words_model.specs.Condition.{waiters_on}
 use Rattle.ptk_words_sync_invariant.specs.Conditions.{IsNoWaiter}
 use Rattle.ptk_threads.specs.Table.{free_table}
 use Rattle.ptk_threads.proofs.Pools.{part_of-set, part_of-set_other}
-use Rattle.ptk_syncs.specs.Rosters.{Rostered, seen}
-use Rattle.ptk_mutex_priorities.specs.Plain.{is_raising_at}
+use Rattle.ptk_roster.specs.Rosters.{Rostered, seen}
+use Rattle.ptk_roster.specs.Plain.{is_raising_at}
 use Rattle.ptk_mutex.specs.Moves.{after_assignment, after_withdrawal}
 use Rattle.ptk_mutex.specs.Pool.{with_new_mutex}
 use Rattle.ptk_mutex.specs.Rosters.{with_priorities}
@@ -227,6 +227,23 @@ sound_mutexes p row a b e lt readies apart sound =
       of_conditions = synced.of_conditions;
       waiting = rw here waiting;
     }) sound)
+
+-- condition variables of a partition after which waiters wait
+pub sound_conditions : (p : ℕ) (row : List (Option Condition)) (a : Rostered) → AreWaiting (of_part p (record a { conditions = set a.conditions p row })) → p < length a.table.threads → IsSound a → IsSound (record a { conditions = set a.conditions p row })
+sound_conditions p row a waiting lt sound =
+    sound_otherwise p a (record a { conditions = set a.conditions p row })
+    (record {
+      threads = record { long = refl; same = λ q ne. refl };
+      stored = record { long = refl; same = λ q ne. refl };
+      lines = record { long = refl; same = λ q ne. refl };
+      mutexes = record { long = refl; same = λ q ne. refl };
+      conditions = elsewhere_set p a.conditions (set a.conditions p row) row refl;
+    })
+    (record {
+      ready = (sound.synced p lt).ready;
+      of_conditions = rw length-set (sound.synced p lt).of_conditions;
+      waiting = waiting;
+    }) sound
 
 apart_new : (o : Option ℕ) (k : ℕ) (kind : MutexKind) (protocol : Protocol) (is_robust : Bool) (locks : Locks) → IsApart locks (record locks { mutexes = unwrap_or (option_map (λ m. pool_set locks.mutexes m (Some (new_mutex kind protocol is_robust))) o) locks.mutexes }) k
 apart_new None k kind protocol is_robust locks = record { thread = refl; out = λ out. out; room = λ n room. room }

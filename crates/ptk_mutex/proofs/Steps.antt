@@ -10,8 +10,8 @@ use Rattle.std.specs.Prelude.{Option, Some, None}
 use Rattle.std.proofs.Math.ListN.{set}
 use Rattle.std.proofs.lemmas.List.{length-set, set-set}
 use Rattle.ptk_words.specs.declared.TheConstants.{COUNT_LIMIT}
-use Rattle.ptk_words_parted.specs.Parts.{part_of}
-use Rattle.ptk_words_parted.proofs.Cuts.{set_part-same}
+use Rattle.ptk_words.specs.Parts.{part_of}
+use Rattle.ptk_words.proofs.Cuts.{set_part-same}
 use Rattle.ptk_words_model.specs.declared.LockMove.{LockMove}
 use Rattle.ptk_words_model.specs.State.{Mutex, Locks}
 use Rattle.ptk_words_model.specs.Priority.{effective_priorities}
@@ -40,10 +40,10 @@ use Rattle.ptk_words_model.specs.Schedule.{with_thread, woken_with}
 use Rattle.ptk_words_model.specs.Mutex.{move_reply, after_count, after_relock_move}
 use Rattle.ptk_threads.specs.Table.{ThreadTable, with_changed}
 use Rattle.ptk_threads.proofs.Pools.{part_of-set}
-use Rattle.ptk_mutex_priorities.specs.declared.slot.Change.{Change}
-use Rattle.ptk_mutex_priorities.specs.declared.slot.Change.TheVariants.{Take, CountUp, CountDown, Release, Abandon, Mark}
-use Rattle.ptk_mutex_priorities.specs.Changes.{mutex_changed, IsQuiet}
-use Rattle.ptk_syncs.specs.Rosters.{Rostered}
+use Rattle.ptk_roster.specs.declared.slot.Change.{Change}
+use Rattle.ptk_roster.specs.declared.slot.Change.TheVariants.{Take, CountUp, CountDown, Release, Abandon, Mark}
+use Rattle.ptk_roster.specs.Changes.{mutex_changed, IsQuiet}
+use Rattle.ptk_roster.specs.Rosters.{Rostered}
 use Rattle.ptk_mutex.specs.Rosters.{with_priorities}
 use Rattle.ptk_mutex.specs.Tables.{locks_by, put_locks, put_locks_alone, with_threads, HasPartBy, AreLocked, AreReadyBy, IsWaiter, MayGet}
 use Rattle.ptk_mutex.specs.Moves.{after_change}

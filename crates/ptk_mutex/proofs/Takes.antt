@@ -22,13 +22,13 @@ use Rattle.ptk_words_sync_invariant.proofs.Threads.{changed_same}
 use Rattle.ptk_words_sync_invariant.proofs.Raising.{level_of}
 use Rattle.ptk_threads.specs.Table.{stored_of, with_priority}
 use Rattle.ptk_threads.proofs.Pools.{pool_changed-free}
-use Rattle.ptk_mutex_priorities.specs.Slots.{bare, with_waiters}
-use Rattle.ptk_mutex_priorities.proofs.Bare.{pool_get-bare}
+use Rattle.ptk_roster.specs.Slots.{bare, with_waiters}
+use Rattle.ptk_roster.proofs.Bare.{pool_get-bare}
 use Rattle.ptk_words_sync_invariant.proofs.Greatest.{Attained, attained, member_le, numbers_member}
-use Rattle.ptk_mutex_priorities.proofs.Tops.{number_member}
-use Rattle.ptk_mutex_priorities.proofs.Risen.{risen_stop}
-use Rattle.ptk_mutex_priorities.specs.Raised.{risen}
-use Rattle.ptk_mutex_priorities.proofs.Raising.{effective_mutex}
+use Rattle.ptk_roster.proofs.Tops.{number_member}
+use Rattle.ptk_roster.proofs.Risen.{risen_stop}
+use Rattle.ptk_roster.specs.Raised.{risen}
+use Rattle.ptk_roster.proofs.Raising.{effective_mutex}
 use Rattle.ptk_mutex.specs.Visits.{reads, IsVisited}
 use Rattle.ptk_mutex.specs.Before.{freed, IsBeforeTake, IsBeforeAssignment}
 use Rattle.ptk_words_model.specs.Condition.{is_named}

@@ -7,7 +7,7 @@ use Rattle.ptk_words.specs.Pools.{pool_get, pool_changed}
 use Rattle.ptk_words.specs.declared.faults.Errno.TheVariants.{ENOTRECOVERABLE}
 use Rattle.ptk_words.specs.declared.threads.Thread.{Thread}
 use Rattle.ptk_words.proofs.Pools.{changed_own}
-use Rattle.ptk_words_parted.specs.Parts.{part_of}
+use Rattle.ptk_words.specs.Parts.{part_of}
 use Rattle.ptk_words_model.specs.declared.LockMove.TheVariants.{Refuses}
 use Rattle.ptk_words_model.specs.State.{Mutex, Locks}
 use Rattle.ptk_words_model.specs.Priority.{awaited, thread_at, effective_priorities}
@@ -15,14 +15,14 @@ use Rattle.ptk_words_model.specs.Schedule.{at_tail_with, woken_with}
 use Rattle.ptk_words_model.specs.Mutex.{mutex_at, with_mutex, soundness_of, free_move, handed, without_mutex_waiter, after_take, after_hand_over_to, after_refusal_to}
 use Rattle.ptk_threads.specs.Table.{ThreadTable}
 use Rattle.ptk_threads.proofs.Pools.{part_of-set}
-use Rattle.ptk_mutex_priorities.specs.declared.slot.Change.{Change}
-use Rattle.ptk_mutex_priorities.specs.declared.slot.Change.TheVariants.{Take, Release}
-use Rattle.ptk_mutex_priorities.specs.Changes.{mutex_changed, IsQuiet}
-use Rattle.ptk_mutex_priorities.specs.Plain.{is_raising_at}
-use Rattle.ptk_mutex_priorities.proofs.Plain.{raising-kept}
-use Rattle.ptk_mutex_priorities.proofs.Raising.{plain_raises_nobody, plain_wait_raises_nobody, keeps_protocol}
-use Rattle.ptk_syncs.specs.Rosters.{Rostered}
-use Rattle.ptk_syncs.specs.Waiters.{left_by}
+use Rattle.ptk_roster.specs.declared.slot.Change.{Change}
+use Rattle.ptk_roster.specs.declared.slot.Change.TheVariants.{Take, Release}
+use Rattle.ptk_roster.specs.Changes.{mutex_changed, IsQuiet}
+use Rattle.ptk_roster.specs.Plain.{is_raising_at}
+use Rattle.ptk_roster.proofs.Plain.{raising-kept}
+use Rattle.ptk_roster.proofs.Raising.{plain_raises_nobody, plain_wait_raises_nobody, keeps_protocol}
+use Rattle.ptk_roster.specs.Rosters.{Rostered}
+use Rattle.ptk_roster.specs.Waiters.{left_by}
 use Rattle.ptk_mutex.specs.Moves.{after_change, after_withdrawal}
 use Rattle.ptk_mutex.specs.Tables.{locks_by, put_locks_alone, AreLocked, AreReadyBy, IsWaiter, MayGet}
 use Rattle.ptk_mutex.proofs.Steps.{locked_change}

@@ -7,10 +7,10 @@ use Rattle.std.proofs.lemmas.Bool.Decides.{nat_tests}
 use Rattle.std.proofs.lemmas.List.{get_or-set_same, get_or-set_other}
 use Rattle.ptk_words.proofs.Options.{count_step}
 use Rattle.ptk_threads.specs.Table.{stored_of}
-use Rattle.ptk_mutex_priorities.specs.Raised.{raised, risen}
-use Rattle.ptk_mutex_priorities.proofs.Levels.{length-raised}
+use Rattle.ptk_roster.specs.Raised.{raised, risen}
+use Rattle.ptk_roster.proofs.LevelLists.{length-raised}
 use Rattle.ptk_mutex.specs.Visits.{reads, risen_count, IsVisited}
-use Rattle.ptk_mutex_priorities.proofs.Risen.{IsPlace, IsWithin, raised-same, raised_past, place_or_past, length-risen}
+use Rattle.ptk_roster.proofs.Risen.{IsPlace, IsWithin, raised-same, raised_past, place_or_past, length-risen}
 
 -- ---- a priority at least as high stays
 

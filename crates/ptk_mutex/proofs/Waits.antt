@@ -11,11 +11,11 @@ use Rattle.ptk_words_model.specs.Priority.{awaited, inheritor_of, ceiling_for, n
 use Rattle.ptk_words_sync_invariant.proofs.Threads.{changed_same}
 use Rattle.ptk_words_sync_invariant.proofs.Raising.{level_of}
 use Rattle.ptk_threads.specs.Table.{stored_of}
-use Rattle.ptk_mutex_priorities.specs.Raised.{risen}
+use Rattle.ptk_roster.specs.Raised.{risen}
 use Rattle.ptk_mutex.specs.Visits.{reads, IsVisited}
 use Rattle.ptk_mutex.specs.Before.{awake, IsBeforeWait}
 use Rattle.ptk_words_sync_invariant.proofs.ChainLaws.{false_true, IsNumber, IsBounded, next_bounded}
-use Rattle.ptk_mutex_priorities.proofs.Risen.{IsWithin}
+use Rattle.ptk_roster.proofs.Risen.{IsWithin}
 use Rattle.ptk_mutex.proofs.Joins.{IsJoin, IsPassed, priorities, length-priorities, stored_as, join-is}
 use Rattle.ptk_mutex.proofs.Visits.{visits}
 

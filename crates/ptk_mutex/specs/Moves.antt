@@ -1,14 +1,12 @@
 -- The moves of the mutex calls, each on one partition's locks.
-use Rattle.std.specs.Prelude.{List, Option, Some, None, option_map, option_to_list, unwrap_or}
+use Rattle.std.specs.Prelude.{Option, None, option_to_list}
 use Rattle.ptk_words.specs.Names.{MutexNumber, Priority, ThreadNumber, Tick, Word}
-use Rattle.ptk_words.specs.Pools.{pool_set, least_free}
-use Rattle.ptk_words.specs.declared.threads.Thread.{Thread}
 use Rattle.ptk_words.specs.declared.threads.Wait.TheVariants.{MutexWait}
 use Rattle.ptk_words_model.specs.State.{Locks}
 use Rattle.ptk_words_model.specs.Schedule.{with_thread, after_wake}
 use Rattle.ptk_words_model.specs.Mutex.{mutex_at, with_mutex, lock_move, trylock_move, after_move, without_mutex_waiter}
-use Rattle.ptk_mutex_priorities.specs.declared.slot.Change.{Change}
-use Rattle.ptk_mutex_priorities.specs.Changes.{mutex_changed}
+use Rattle.ptk_roster.specs.declared.slot.Change.{Change}
+use Rattle.ptk_roster.specs.Changes.{mutex_changed}
 
 -- the thread makes its move of lock; where it waits, it waits until the deadline, if there is one (pthread_mutex_lock, pthread_mutex_timedlock)
 abbrev pub after_lock : ThreadNumber → MutexNumber → Option Tick → Locks → Locks
@@ -29,11 +27,3 @@ after_assignment t priority locks = with_thread t (λ thread. record thread { pr
 -- the mutex is changed so (own)
 abbrev pub after_change : Change → MutexNumber → Locks → Locks
 after_change change m locks = with_mutex m (mutex_changed change) locks
-
--- the thread at the least free number, if there is one (pthread_create)
-abbrev pub with_new_thread : Thread → List (Option Thread) → List (Option Thread)
-with_new_thread thread threads = unwrap_or (option_map (λ k. pool_set threads k (Some thread)) (least_free threads)) threads
-
--- there is this thread more (pthread_create)
-abbrev pub after_creation : Thread → Locks → Locks
-after_creation thread locks = record locks { threads = with_new_thread thread locks.threads }

@@ -2,8 +2,8 @@
 use Rattle.std.specs.Prelude.{ℕ, List, Option, slice_set}
 use Rattle.ptk_words.specs.Names.{Priority, ThreadNumber}
 use Rattle.ptk_words_model.specs.Priority.{next_in_chain}
-use Rattle.ptk_words_parted.specs.Parts.{part_of}
-use Rattle.ptk_syncs.specs.Rosters.{Rostered}
+use Rattle.ptk_words.specs.Parts.{part_of}
+use Rattle.ptk_roster.specs.Rosters.{Rostered}
 
 -- the roster with these stored priorities of a partition (own)
 abbrev pub with_priorities : ℕ → List Priority → Rostered → Rostered

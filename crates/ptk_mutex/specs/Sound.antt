@@ -1,9 +1,7 @@
 -- What the calls on mutexes and condition variables ask of the roster, and each of them keeps.
-use Rattle.std.specs.Prelude.{IsSome, ◌≡◌, ℕ, ◌<◌, Bool, true, false, ◌&&◌, not, List, length, Option, Some, None, is_none, slice_set}
-use Rattle.ptk_words.specs.Names.{ThreadNumber}
+use Rattle.std.specs.Prelude.{IsSome, ◌≡◌, ℕ, ◌<◌, true, false, List, length, Option, Some, None, slice_set}
 use Rattle.ptk_words.specs.Pools.{is_in}
-use Rattle.ptk_words.specs.declared.threads.Thread.{Thread}
-use Rattle.ptk_words_parted.specs.Parts.{part_of}
+use Rattle.ptk_words.specs.Parts.{part_of}
 use Rattle.ptk_words_model.specs.State.{Condition, Locks, Mutex, Syncs}
 use Rattle.ptk_words_model.specs.Priority.{thread_at}
 use Rattle.ptk_words_model.specs.Mutex.{mutex_at, wait_of}
@@ -11,7 +9,7 @@ use Rattle.ptk_words_model.specs.Condition.{condition_waiters, mutex_of_conditio
 use Rattle.ptk_words_sync_invariant.specs.Conditions.{HasRoom}
 use Rattle.ptk_words.specs.Threads.{condition_of_wait}
 use Rattle.ptk_threads.specs.Table.{ThreadTable}
-use Rattle.ptk_syncs.specs.Rosters.{Rostered}
+use Rattle.ptk_roster.specs.Rosters.{Rostered}
 use Rattle.ptk_mutex.specs.Tables.{locks_by, put_locks, AreReadyBy}
 
 -- what the condition calls read and change of a partition (own)
@@ -56,12 +54,3 @@ pub record IsAwake (locks : Locks) (t : ℕ) : Type 0 where
   pub used : IsSome (thread_at locks t)
   pub out : is_in t locks.line ≡ false
   pub awake : wait_of (thread_at locks t) ≡ None
-
--- a thread in use that waits for nothing (XSH 2.8.4)
-abbrev pub is_idle : Option Thread → Bool
-is_idle None = false
-is_idle (Some thread) = is_none thread.wait
-
--- the thread may begin to wait: it is in use, waits for nothing, and is not in the line (pthread_cond_wait)
-abbrev pub is_awake : Locks → ThreadNumber → Bool
-is_awake locks t = is_idle (thread_at locks t) && not (is_in t locks.line)

@@ -2,14 +2,14 @@
 use Rattle.std.specs.Prelude.{IsSome, ◌≡◌, ℕ, ◌<◌, ◌≤◌, true, false, List, length, Option, Some, None, slice_set}
 use Rattle.ptk_words.specs.Pools.{pool_get, pool_set, is_in, without}
 use Rattle.ptk_words.specs.declared.TheConstants.{COUNT_LIMIT}
-use Rattle.ptk_words_parted.specs.Parts.{part_of}
+use Rattle.ptk_words.specs.Parts.{part_of}
 use Rattle.ptk_words_model.specs.State.{Mutex, Locks}
 use Rattle.ptk_words_model.specs.Priority.{thread_at, awaited, effective_priorities}
 use Rattle.ptk_words_model.specs.Mutex.{mutex_at, waiters_of, count_of}
 use Rattle.ptk_words_model.specs.Condition.{waiters_on}
 use Rattle.ptk_threads.specs.Table.{ThreadTable}
-use Rattle.ptk_syncs.specs.Rosters.{Rostered}
-use Rattle.ptk_syncs.specs.Waiters.{condition_of}
+use Rattle.ptk_roster.specs.Rosters.{Rostered}
+use Rattle.ptk_roster.specs.Waiters.{condition_of}
 
 -- what the mutex calls read and change of a partition, by the tables of all (own)
 abbrev pub locks_by : ℕ → ThreadTable → List (List ℕ) → List (List (Option Mutex)) → Locks

@@ -1,7 +1,7 @@
 -- How many priorities a walk reads, how many rose, and how many may be read for it.
 use Rattle.std.specs.Prelude.{ℕ, zero, suc, ◌≤◌, List, [], ◌∷◌, nat_le, nat_lt, Option, option_map, unwrap_or, if◌then◌else◌}
 use Rattle.ptk_threads.specs.Table.{stored_of}
-use Rattle.ptk_mutex_priorities.specs.Raised.{raised}
+use Rattle.ptk_roster.specs.Raised.{raised}
 
 -- how many priorities a walk from u reads: of each number that it raises, and of the one that it stops at (own)
 abbrev pub reads : (ℕ → Option ℕ) → ℕ → ℕ → ℕ → List ℕ → ℕ

@@ -9,11 +9,10 @@
 //!   destruction of a mutex that is not locked, and lock and unlock of one that raises nobody (`take_plain`,
 //!   `release_plain`) leave them so (`ready`).
 //! - Every call keeps what the calls here and in `ptk_cond` ask of the roster, at each partition (`sound`: `IsSound`),
-//!   and `build` gives it.
-//! - `create` adds a thread, and `is_awake` returns whether a thread may make a call that can block, so a caller proves
-//!   nothing.
-//! - `wake` makes a blocked thread ready; whoever is woken here or in a crate above is woken by it, but for a mutex's
-//!   waiter, which leaves its queue with the same step.
+//!   and `build` gives it; `destroy` keeps it if the mutex is not locked.
+//! - A call that ends waits (`unlock`, `withdraw`, `abandon`, `relock`) returns the set of threads woken, as 32 bits:
+//!   those that wait before and, in use, wait for nothing after (`woken`: `woken_at`). `relock` returns it beside its
+//!   move, of a thread that waits.
 //! - Each call says what it leaves of the number of reads (`visited`): after `lock`, `wait_for`, `trylock`,
 //!   `lock_again`, `relock`, `pass_on` and a rise by `assign` the number that rose or one more, and 0 after any other.
 //! - `raise` and `rise_behind`, the walk along a thread's chain after a change that can only raise: it raises each
@@ -28,11 +27,11 @@
 //! priority. After any other change on which they may depend, the partition's priorities are all computed again, and
 //! `visited` of `Mutexes`, the number of stored priorities that the walk read, is 0. None depends on a mutex that is
 //! neither INHERIT nor PROTECT (`refresh_after`), or on a change of any mutex that keeps its owner (`amend`):
-//! `ptk_mutex_priorities` has the laws. Costly to prove are that stopping early changes nothing, on cycles too
+//! `ptk_roster` has the laws. Costly to prove are that stopping early changes nothing, on cycles too
 //! (`proofs/Rises`), and what a rise adds to the priorities (`proofs/Joins`, `proofs/Gains`), which speak of lists
 //! alone (`proofs/Rosters` puts a list into the roster); that the stored priorities choose the heir (`proofs/Locked`),
 //! the calls of many moves (`proofs/Steps`), and that a call leaves other waiters alone (`proofs/Apart`). Below are
-//! `ptk_syncs` and `ptk_mutex_priorities`; above are `ptk_cond` and `ptk_gate_pools`.
+//! `ptk_roster` and `ptk_roster`; above are `ptk_cond` and `ptk_gate_pools`.
 
 mod ends;
 mod locking;
@@ -46,8 +45,7 @@ mod waking;
 mod walk;
 
 pub use mutexes::Mutexes;
-pub use ptk_mutex_priorities::{MutexSlot, MutexState, effective, thread_slot};
-pub use ptk_syncs::Roster;
+pub use ptk_roster::{MutexSlot, MutexState, Roster, effective, thread_slot};
 pub use rise::is_named;
 pub use starting::build;
-pub use waking::{relock_move, wake};
+pub use waking::{Relocked, relock_move};

@@ -8,7 +8,7 @@ ghost use Rattle.ptk_words.specs.declared.TheConstants.{COUNT_LIMIT};
 ghost use Rattle.ptk_words.specs.declared.threads.Wait.TheVariants.{RelockWait};
 ghost use Rattle.ptk_words.specs.declared.mutexes.Soundness.TheVariants.{Consistent};
 ghost use Rattle.ptk_words.specs.declared.TheConstants.{THREAD_LIMIT};
-ghost use Rattle.ptk_words_parted.specs.Parts.{part_of};
+ghost use Rattle.ptk_words.specs.Parts.{part_of};
 ghost use Rattle.ptk_words_model.specs.declared.LockMove.TheVariants.{Counts, Waits};
 ghost use Rattle.ptk_words_model.specs.State.{locks_of};
 ghost use Rattle.ptk_words_model.specs.Priority.{assigned_of};
@@ -24,8 +24,7 @@ use crate::rise::{Rise, raise};
 use crate::rising::make;
 use crate::unlocking::amend;
 use crate::waking::relock_move;
-use ptk_mutex_priorities::{Change, MutexSlot, assigned, slot_in};
-use ptk_syncs::Roster;
+use ptk_roster::{Change, MutexSlot, Roster, assigned, slot_in};
 use ptk_threads::ThreadField;
 use ptk_words::{Errno, MutexNo, PartId, Priority, Soundness, ThreadNo, Tick, Wait};
 use ptk_words_model::LockMove;
@@ -108,7 +107,7 @@ impl Mutexes {
 
     /// What a lock by the thread would do now; nothing changes (pthread_mutex_timedlock).
     #[inline(always)]
-    #[tactic(auto, using(ptk_mutex_priorities::proofs::Bare::bares))]
+    #[tactic(auto, using(ptk_roster::proofs::Bare::bares))]
     pub fn lock_move(&self, roster: &Roster, p: PartId, t: ThreadNo, m: MutexNo) -> LockMove
         requires { p < length roster.now.table.threads }
         ensures { result ≡ lock_move (locks_of (part_of roster.now.table.threads p) (part_of roster.now.mutexes p)) t (pool_get (part_of roster.now.mutexes p) m) }
@@ -207,7 +206,7 @@ fn reassign(roster: &mut Roster, p: PartId, t: ThreadNo, priority: Priority) -> 
 }
 
 /// The move of trylock.
-#[tactic(auto, using(ptk_mutex_priorities::proofs::Bare::bares))]
+#[tactic(auto, using(ptk_roster::proofs::Bare::bares))]
 fn trylock_move(roster: &Roster, p: PartId, t: ThreadNo, m: MutexNo) -> LockMove
     requires { p < length roster.now.table.threads }
     ensures { result ≡ trylock_move (locks_of (part_of roster.now.table.threads p) (part_of roster.now.mutexes p)) t (pool_get (part_of roster.now.mutexes p) m) }
@@ -219,7 +218,7 @@ fn trylock_move(roster: &Roster, p: PartId, t: ThreadNo, m: MutexNo) -> LockMove
 }
 
 /// Whether the thread owns the mutex.
-#[tactic(auto, using(ptk_mutex_priorities::proofs::Bare::bares))]
+#[tactic(auto, using(ptk_roster::proofs::Bare::bares))]
 pub(crate) fn is_owner(roster: &Roster, p: PartId, t: ThreadNo, m: MutexNo) -> bool
     requires { p < length roster.now.table.threads }
     ensures { result ≡ owns t (pool_get (part_of roster.now.mutexes p) m) }

@@ -6,16 +6,15 @@ ghost use Rattle.ptk_words.specs.declared.TheConstants.{THREAD_LIMIT};
 ghost use Rattle.ptk_words_model.specs.Mutex.{new_mutex, waiters_of};
 ghost use Rattle.ptk_words_model.specs.MutexCalls.{is_locked};
 ghost use Rattle.ptk_words_model.specs.Priority.{effective_priorities};
-ghost use Rattle.ptk_words_parted.specs.Parts.{part_of};
-ghost use Rattle.ptk_mutex_priorities.specs.Plain.{is_raising_at};
-ghost use Rattle.ptk_mutex_priorities.specs.Slots.{state_of};
+ghost use Rattle.ptk_words.specs.Parts.{part_of};
+ghost use Rattle.ptk_roster.specs.Plain.{is_raising_at};
+ghost use Rattle.ptk_roster.specs.Slots.{state_of};
 ghost use Rattle.ptk_mutex.specs.Pool.{with_new_mutex};
 ghost use Rattle.ptk_mutex.specs.Rosters.{with_priorities};
 ghost use Rattle.ptk_mutex.specs.Sound.{IsSound};
 ghost use Rattle.ptk_mutex.specs.Tables.{AreReady};
 
-use ptk_mutex_priorities::{MutexState, recompute, slot_in};
-use ptk_syncs::Roster;
+use ptk_roster::{MutexState, Roster, recompute, slot_in};
 use ptk_words::{MutexKind, MutexNo, PartId, Protocol, THREAD_LIMIT};
 
 /// The calls on the mutexes of a roster.
@@ -44,7 +43,7 @@ impl Mutexes {
     }
 
     /// What the mutex of a number is, but for its waiters; None of a free number.
-    #[tactic(auto, using(ptk_mutex_priorities::proofs::Bare::bares))]
+    #[tactic(auto, using(ptk_roster::proofs::Bare::bares))]
     pub fn state(&self, roster: &Roster, p: PartId, m: MutexNo) -> Option<MutexState>
         requires { p < length roster.now.table.threads }
         ensures { result ≡ option_map state_of (pool_get (part_of roster.now.mutexes p) m) }
@@ -148,7 +147,7 @@ pub(crate) fn refresh_after(roster: &mut Roster, p: PartId, m: MutexNo)
 
 /// Whether a mutex is INHERIT or PROTECT.
 #[inline(always)]
-#[tactic(auto, using(ptk_mutex_priorities::proofs::Bare::bares))]
+#[tactic(auto, using(ptk_roster::proofs::Bare::bares))]
 fn is_raising(roster: &Roster, p: PartId, m: MutexNo) -> bool
     requires { p < length roster.now.table.threads }
     ensures { result ≡ is_raising_at (pool_get (part_of roster.now.mutexes p) m) }

@@ -2,23 +2,22 @@
 
 ghost use Rattle.std.specs.Prelude.{◌≡◌, ◌<◌, true, false, length, slice_set};
 ghost use Rattle.ptk_words.specs.Pools.{pool_get};
-ghost use Rattle.ptk_words_parted.specs.Parts.{part_of};
+ghost use Rattle.ptk_words.specs.Parts.{part_of};
 ghost use Rattle.ptk_words_model.specs.State.{locks_of};
 ghost use Rattle.ptk_words_model.specs.Mutex.{after_take, after_free};
-ghost use Rattle.ptk_mutex_priorities.specs.Plain.{is_takeable, is_releasable, is_raising_at};
+ghost use Rattle.ptk_roster.specs.Plain.{is_takeable, is_releasable, is_raising_at};
 ghost use Rattle.ptk_mutex.specs.Sound.{IsSound};
 ghost use Rattle.ptk_mutex.specs.Tables.{AreReady};
 
 use crate::mutexes::Mutexes;
-use ptk_mutex_priorities::{Change, slot_in};
-use ptk_syncs::Roster;
+use ptk_roster::{Change, Roster, slot_in};
 use ptk_words::{MutexNo, PartId, ThreadNo};
 
 impl Mutexes {
     /// Whether a lock takes the mutex and changes no priority: it is free and sound, and neither INHERIT nor PROTECT
     /// (pthread_mutex_lock).
     #[inline]
-    #[tactic(auto, using(ptk_mutex_priorities::proofs::Bare::bares))]
+    #[tactic(auto, using(ptk_roster::proofs::Bare::bares))]
     pub fn is_takeable(&self, roster: &Roster, p: PartId, m: MutexNo) -> bool
         requires { p < length roster.now.table.threads }
         ensures told { result ≡ is_takeable (pool_get (part_of roster.now.mutexes p) m) }
@@ -33,7 +32,7 @@ impl Mutexes {
     /// Whether an unlock by the thread frees the mutex, wakes nobody and changes no priority: the thread locked it
     /// once, it is sound and neither INHERIT nor PROTECT, and nobody waits for it (pthread_mutex_unlock).
     #[inline]
-    #[tactic(auto, using(ptk_mutex_priorities::proofs::Bare::bares))]
+    #[tactic(auto, using(ptk_roster::proofs::Bare::bares))]
     pub fn is_releasable(&self, roster: &Roster, p: PartId, t: ThreadNo, m: MutexNo) -> bool
         requires { p < length roster.now.table.threads }
         ensures told { result ≡ is_releasable t (pool_get (part_of roster.now.mutexes p) m) }

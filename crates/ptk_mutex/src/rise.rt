@@ -6,7 +6,7 @@ ghost use Rattle.ptk_words_model.specs.Priority.{awaited, effective_priorities};
 ghost use Rattle.ptk_words_model.specs.Mutex.{owns};
 ghost use Rattle.ptk_words_model.specs.Condition.{is_named};
 ghost use Rattle.ptk_words.specs.declared.TheConstants.{THREAD_LIMIT};
-ghost use Rattle.ptk_words_parted.specs.Parts.{part_of};
+ghost use Rattle.ptk_words.specs.Parts.{part_of};
 ghost use Rattle.ptk_threads.specs.Table.{thread_in, stored_of};
 ghost use Rattle.ptk_mutex.specs.Risings.{IsBefore};
 ghost use Rattle.ptk_mutex.specs.Before.{IsBeforeWait, IsBeforeTake, IsBeforeAssignment};
@@ -15,8 +15,7 @@ ghost use Rattle.ptk_mutex.specs.Rosters.{with_priorities, next_at};
 ghost use Rattle.ptk_mutex.specs.Visits.{IsVisited};
 
 use crate::walk::{rise, slots_of};
-use ptk_mutex_priorities::{MutexSlot, assigned, awaited, slot_in};
-use ptk_syncs::Roster;
+use ptk_roster::{MutexSlot, Roster, assigned, awaited, slot_in};
 use ptk_words::{MutexNo, PartId, Protocol, ThreadNo};
 
 /// What raised a thread.

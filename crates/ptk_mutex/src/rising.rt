@@ -4,19 +4,18 @@
 ghost use Rattle.std.specs.Prelude.{◌≡◌, ◌≤◌, ◌+◌, ◌<◌, Some, IsSome};
 ghost use Rattle.ptk_words.specs.Pools.{pool_get};
 ghost use Rattle.ptk_words.specs.declared.TheConstants.{THREAD_LIMIT};
-ghost use Rattle.ptk_words_parted.specs.Parts.{part_of};
+ghost use Rattle.ptk_words.specs.Parts.{part_of};
 ghost use Rattle.ptk_words.specs.Threads.{mutex_of_wait};
 ghost use Rattle.ptk_words_model.specs.Mutex.{after_take, after_count, after_wait, after_move};
 ghost use Rattle.ptk_words_sync_invariant.specs.Conditions.{IsNoWaiter};
 ghost use Rattle.ptk_threads.specs.Table.{thread_in};
-ghost use Rattle.ptk_mutex_priorities.specs.declared.slot.Change.TheVariants.{CountUp};
+ghost use Rattle.ptk_roster.specs.declared.slot.Change.TheVariants.{CountUp};
 ghost use Rattle.ptk_mutex.specs.Visits.{IsVisited};
 ghost use Rattle.ptk_mutex.specs.Tables.{locks_at, put_locks, MayWait, AreReady};
 ghost use Rattle.ptk_mutex.specs.Rises.{IsFree, MayTake};
 
 use crate::rise::{Rise, raise, rise_behind};
-use ptk_mutex_priorities::{Change, inheritor_of};
-use ptk_syncs::Roster;
+use ptk_roster::{Change, Roster, inheritor_of};
 use ptk_words::{MutexNo, PartId, ThreadNo, Wait};
 use ptk_words_model::LockMove;
 

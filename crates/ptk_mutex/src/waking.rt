@@ -1,14 +1,14 @@
 //! The calls after which a waiter is ready: the reply to a thread that leaves a mutex's waiters, and the end of a
 //! condition wait.
 
-ghost use Rattle.std.specs.Prelude.{◌≡◌, ◌≤◌, ◌+◌, ◌<◌, true, false, None, [], ◌∷◌, ◌++◌, length, IsSome, slice_set, option_to_list};
+ghost use Rattle.std.specs.Prelude.{◌≡◌, ◌≤◌, ◌+◌, ◌-◌, ◌^◌, ◌<◌, true, false, [], ◌∷◌, ◌++◌, length, IsSome, is_some, slice_set, option_to_list, if◌then◌else◌};
 ghost use Rattle.ptk_words.specs.Pools.{pool_get, is_in};
 ghost use Rattle.ptk_words.specs.declared.TheConstants.{COUNT_LIMIT};
 ghost use Rattle.ptk_words.specs.declared.TheConstants.{THREAD_LIMIT};
-ghost use Rattle.ptk_words_parted.specs.Parts.{part_of};
+ghost use Rattle.ptk_words.specs.Parts.{part_of};
 ghost use Rattle.ptk_words_model.specs.Schedule.{woken_with};
 ghost use Rattle.ptk_words_model.specs.declared.LockMove.TheVariants.{Counts, Waits};
-ghost use Rattle.ptk_words_model.specs.Mutex.{mutex_at, count_of, kept_reply, relock_move, after_relock, after_relock_move, after_leave};
+ghost use Rattle.ptk_words_model.specs.Mutex.{mutex_at, wait_of, count_of, is_waiting, kept_reply, relock_move, after_relock, after_relock_move, after_leave};
 ghost use Rattle.ptk_words_model.specs.Condition.{waiters_on};
 ghost use Rattle.ptk_words_sync_invariant.specs.Conditions.{IsNoWaiter};
 ghost use Rattle.ptk_threads.specs.Table.{thread_in, with_changed};
@@ -17,20 +17,29 @@ ghost use Rattle.ptk_mutex.specs.Sound.{IsSound};
 ghost use Rattle.ptk_mutex.specs.Tables.{locks_at, put_locks, put_locks_alone, without_condition_waiter, HasPart, IsWaiter, MayWait, AreReady};
 ghost use Rattle.ptk_mutex.specs.Moves.{after_withdrawal};
 ghost use Rattle.ptk_mutex.specs.Rises.{MayTake};
+ghost use Rattle.ptk_mutex.specs.Woken.{woken_at};
 
 use crate::mutexes::{Mutexes, refresh_after};
 use crate::rise::rise_behind;
 use crate::rising::make;
-use ptk_mutex_priorities::{inheritor_of, slot_in};
-use ptk_syncs::Roster;
+use ptk_roster::{Roster, inheritor_of, slot_in};
 use ptk_words::{ConditionNo, MutexNo, PartId, ThreadNo, Wait};
 use ptk_words_model::LockMove;
+
+/// What a re-lock did, and whom it woke.
+#[derive(Clone, Copy)]
+pub struct Relocked {
+    /// The move of the re-lock.
+    pub made: LockMove,
+    /// The set of threads woken, as 32 bits: bit k - 1 is thread k.
+    pub woken: u32,
+}
 
 impl Mutexes {
     /// A blocked thread that waits for no mutex and is not in the line has this one again, or waits for it, or goes on
     /// without it where it can't be locked any more; unless it waits it is woken, with this reply if there is one
     /// (pthread_cond_wait; own choice). Where it still owns the mutex, the count is below the limit, since its wait
-    /// unlocked it once.
+    /// unlocked it once. Returns the move, and the set of threads woken: the thread itself, or nobody if it waits.
     #[inline(never)]
     pub fn relock(
         &mut self,
@@ -39,12 +48,13 @@ impl Mutexes {
         t: ThreadNo,
         m: MutexNo,
         reply: Option<u32>,
-    ) -> LockMove
+    ) -> Relocked
         requires ready { AreReady p roster.old }
         requires caller { MayWait (locks_at p roster.old) t }
         requires free { IsNoWaiter t (part_of roster.old.mutexes p) (part_of roster.old.conditions p) }
         requires countable { relock_move t (mutex_at (locks_at p roster.old) m) ≡ Counts → count_of (mutex_at (locks_at p roster.old) m) < COUNT_LIMIT }
-        ensures told { result ≡ relock_move t (mutex_at (locks_at p roster.old) m) }
+        ensures told { result.made ≡ relock_move t (mutex_at (locks_at p roster.old) m) }
+        ensures woken { is_some (wait_of (thread_in roster.old.table p t)) ≡ true → result.woken ≡ woken_at p roster.old roster.new }
         ensures roster { roster.new ≡ put_locks p (after_relock t m reply (locks_at p roster.old)) roster.old }
         ensures visited { IsVisited self.new.visited (part_of roster.old.table.stored p) (part_of roster.new.table.stored p) }
         ensures ready { AreReady p roster.new }
@@ -52,7 +62,8 @@ impl Mutexes {
     {
         let made = relock_move(roster, p, t, m);
         self.visited = make_relock(roster, p, t, m, reply, made);
-        made
+        let woken = woken_by(made, t);
+        Relocked { made, woken }
     }
 
     /// A waiter on a condition variable waits on it no more and waits for a mutex, as its last waiter, as its re-lock
@@ -76,7 +87,7 @@ impl Mutexes {
         ensures roster { roster.new ≡ put_locks p (after_relock t m reply (locks_at p roster.old)) (without_condition_waiter p t c roster.old) }
         ensures visited { IsVisited self.new.visited (part_of roster.old.table.stored p) (part_of roster.new.table.stored p) }
         ensures ready { AreReady p roster.new }
-        ensures sound { IsSound (without_condition_waiter p t c roster.old) → IsSound roster.new }
+        ensures sound { IsSound roster.old → IsSound roster.new }
     {
         let inheritor = inheritor_of(roster.mutex_slots(p), m);
         let _part = roster.threads().linked(p);
@@ -85,6 +96,7 @@ impl Mutexes {
     }
 
     /// A waiter leaves without the mutex and is woken, with this reply if there is one (pthread_mutex_timedlock).
+    /// Returns the set of threads woken, as 32 bits: bit k - 1 is thread k.
     #[inline(always)]
     pub fn withdraw(
         &mut self,
@@ -93,9 +105,10 @@ impl Mutexes {
         t: ThreadNo,
         m: MutexNo,
         reply: Option<u32>,
-    )
+    ) -> u32
         requires ready { AreReady p roster.old }
         requires waiter { IsWaiter (locks_at p roster.old) m t }
+        ensures woken { result ≡ woken_at p roster.old roster.new }
         ensures roster { roster.new ≡ put_locks p (after_withdrawal t m reply (locks_at p roster.old)) roster.old }
         ensures visited { self.new.visited ≡ 0 }
         ensures ready { AreReady p roster.new }
@@ -104,6 +117,7 @@ impl Mutexes {
         self.visited = 0;
         take_out(roster, p, t, m, reply);
         refresh_after(roster, p, m);
+        only(t)
     }
 }
 
@@ -170,7 +184,7 @@ fn take_out(roster: &mut Roster, p: PartId, t: ThreadNo, m: MutexNo, reply: Opti
 }
 
 /// The move of a re-lock.
-#[tactic(auto, using(ptk_mutex_priorities::proofs::Bare::bares))]
+#[tactic(auto, using(ptk_roster::proofs::Bare::bares))]
 pub fn relock_move(roster: &Roster, p: PartId, t: ThreadNo, m: MutexNo) -> LockMove
     requires { p < length roster.now.table.threads }
     ensures { result ≡ relock_move t (pool_get (part_of roster.now.mutexes p) m) }
@@ -191,21 +205,23 @@ fn wake_with(roster: &mut Roster, p: PartId, t: ThreadNo, reply: Option<u32>)
     ensures { roster.new ≡ record roster.old { table = with_changed p t (woken_with (option_to_list reply)) roster.old.table; lines = slice_set roster.old.lines p (part_of roster.old.lines p ++ t ∷ []) } }
 {
     match reply {
-        Some(value) => wake(roster, p, t, &[value]),
-        None => wake(roster, p, t, &[]),
+        Some(value) => roster.rouse(p, t, &[value]),
+        None => roster.rouse(p, t, &[]),
     }
 }
 
-/// A blocked thread is ready, at the tail, and waits for nothing any more; it has used no tick, and has these values in
-/// a0 and so on. The stored priorities stay (XSH 2.8.4).
+/// The set of one thread, as 32 bits: bit k - 1 is thread k.
 #[inline(always)]
-pub fn wake(roster: &mut Roster, p: PartId, t: ThreadNo, values: &[u32])
-    requires partition { p < length roster.old.table.threads }
-    requires few { length values.now < 4 }
-    requires in_use { IsSome (thread_in roster.old.table p t) }
-    requires out { is_in t (part_of roster.old.lines p) ≡ false }
-    requires free { IsNoWaiter t (part_of roster.old.mutexes p) (part_of roster.old.conditions p) }
-    ensures { roster.new ≡ record roster.old { table = with_changed p t (woken_with values.now) roster.old.table; lines = slice_set roster.old.lines p (part_of roster.old.lines p ++ t ∷ []) } }
+pub(crate) fn only(t: ThreadNo) -> u32
+    ensures { result ≡ 2 ^ (t - 1) }
 {
-    roster.rouse(p, t, values);
+    1 << t.place()
+}
+
+/// Whom the move of a thread's re-lock wakes: the thread, or nobody if it waits.
+#[inline(always)]
+fn woken_by(made: LockMove, t: ThreadNo) -> u32
+    ensures { result ≡ (if is_waiting made then 0 else 2 ^ (t - 1)) }
+{
+    if made.is_waiting() { 0 } else { only(t) }
 }

@@ -2,15 +2,14 @@
 
 ghost use Rattle.std.specs.Prelude.{◌≡◌, ◌+◌, ◌<◌, ◌≤◌, length};
 ghost use Rattle.ptk_words.specs.declared.TheConstants.{THREAD_LIMIT};
-ghost use Rattle.ptk_words_parted.specs.Parts.{part_of};
-ghost use Rattle.ptk_threads_slots.specs.Links.{threads_of};
+ghost use Rattle.ptk_words.specs.Parts.{part_of};
+ghost use Rattle.ptk_threads.specs.Links.{threads_of};
 ghost use Rattle.ptk_threads.specs.Table.{stored_of};
-ghost use Rattle.ptk_mutex_priorities.specs.Raised.{risen};
+ghost use Rattle.ptk_roster.specs.Raised.{risen};
 ghost use Rattle.ptk_mutex.specs.Visits.{reads};
 ghost use Rattle.ptk_mutex.specs.Rosters.{with_priorities, next_at};
 
-use ptk_mutex_priorities::next_in_chain;
-use ptk_syncs::Roster;
+use ptk_roster::{Roster, next_in_chain};
 use ptk_threads::Slot;
 use ptk_words::{PartId, Priority, ThreadNo};
 

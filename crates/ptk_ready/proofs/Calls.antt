@@ -6,19 +6,19 @@ use Rattle.std.proofs.lemmas.Bool.{cases_eq, cases_Bool, eq-eqb, ne_eqb}
 use Rattle.std.proofs.lemmas.List.{get_or-set_same, length-map, length-set, get_or_past, take-set-le, drop-set-lt}
 use Rattle.std.proofs.Math.Seq.{take-set-lt}
 use Rattle.ptk_words.specs.Pools.{is_in, without, pool_set, numbers_to}
-use Rattle.ptk_words_parted.specs.Parts.{part_of}
+use Rattle.ptk_words.specs.Parts.{part_of}
 use Rattle.ptk_threads.specs.Table.{stored_of}
 use Rattle.ptk_threads.specs.Queues.{IsUnqueued, with_last, with_first, with_before, with_none}
 use Rattle.ptk_threads.proofs.Linked.{inserted_all, taken_all}
-use Rattle.ptk_threads_slots.specs.declared.link.Link.{Link}
-use Rattle.ptk_threads_slots.specs.declared.link.Ends.{Ends}
-use Rattle.ptk_threads_slots.specs.declared.link.QueueName.{QueueName}
-use Rattle.ptk_threads_slots.specs.declared.link.QueueName.TheVariants.{Ready}
-use Rattle.ptk_threads_slots.specs.Links.{place_of, mark_of, link_in, no_ends, no_link, ends_at, first_after, queue_from, queue_at, queues, with_next, with_previous, AreQueues}
-use Rattle.ptk_threads_slots.specs.Changes.{put_before, linked_between, end_between, unlinked, end_without}
-use Rattle.ptk_threads_slots.proofs.Along.{not_true, le_or_gt, link_same, length_next, length_previous, along_marked, marked_within}
-use Rattle.ptk_threads_slots.proofs.Lists.{AreTurned, list_at, appended, prepended, inserted, unqueued_mark}
-use Rattle.ptk_threads_slots.proofs.Lists.{went as left_links}
+use Rattle.ptk_threads.specs.declared.link.Link.{Link}
+use Rattle.ptk_threads.specs.declared.link.Ends.{Ends}
+use Rattle.ptk_threads.specs.declared.link.QueueName.{QueueName}
+use Rattle.ptk_threads.specs.declared.link.QueueName.TheVariants.{Ready}
+use Rattle.ptk_threads.specs.Links.{place_of, mark_of, link_in, no_ends, no_link, ends_at, first_after, queue_from, queue_at, queues, with_next, with_previous, AreQueues}
+use Rattle.ptk_threads.specs.LinkChanges.{put_before, linked_between, end_between, unlinked, end_without}
+use Rattle.ptk_threads.proofs.Along.{not_true, le_or_gt, link_same, length_next, length_previous, along_marked, marked_within}
+use Rattle.ptk_threads.proofs.Lists.{AreTurned, list_at, appended, prepended, inserted, unqueued_mark}
+use Rattle.ptk_threads.proofs.Lists.{went as left_links}
 use Rattle.ptk_ready.specs.declared.stamps.StampRange.{StampRange}
 use Rattle.ptk_ready.specs.Bits.{has_bit, IsBitChanged}
 use Rattle.ptk_ready.specs.Orders.{in_order, placed}

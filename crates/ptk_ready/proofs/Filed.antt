@@ -5,13 +5,13 @@ use Rattle.std.proofs.lemmas.Bool.Decides.{nat_tests}
 use Rattle.std.proofs.lemmas.Bool.{eqb-true, cases_Bool}
 use Rattle.ptk_words.specs.Pools.{is_in}
 use Rattle.ptk_words.proofs.Lists.{in_here}
-use Rattle.ptk_threads_slots.proofs.Along.{in_later, not_true}
+use Rattle.ptk_threads.proofs.Along.{in_later, not_true}
 use Rattle.std.proofs.lemmas.List.{get_or_read}
 use Rattle.ptk_ready.specs.Entries.{stamp_of}
-use Rattle.ptk_threads_slots.specs.declared.link.Link.{Link}
-use Rattle.ptk_threads_slots.specs.declared.link.Ends.{Ends}
-use Rattle.ptk_threads_slots.specs.Links.{link_in, walk, no_ends, ends_at, queue_at}
-use Rattle.ptk_threads_slots.specs.Changes.{put_before}
+use Rattle.ptk_threads.specs.declared.link.Link.{Link}
+use Rattle.ptk_threads.specs.declared.link.Ends.{Ends}
+use Rattle.ptk_threads.specs.Links.{link_in, walk, no_ends, ends_at, queue_at}
+use Rattle.ptk_threads.specs.LinkChanges.{put_before}
 use Rattle.ptk_ready.specs.Orders.{placed}
 
 -- a thread that fails the test is passed over

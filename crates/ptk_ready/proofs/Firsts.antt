@@ -3,11 +3,11 @@ use Rattle.std.proofs.Common.{◌≡◌, ℕ, suc, ◌-◌, ◌<◌, ◌≤◌, 
 use Rattle.std.specs.Prelude.{ℤ, find, filter, fold, ◌==◌, Some, None}
 use Rattle.std.proofs.lemmas.Bool.{cases_Bool}
 use Rattle.ptk_words.proofs.Lists.{in_here, in_head}
-use Rattle.ptk_words_parted.specs.Parts.{part_of}
+use Rattle.ptk_words.specs.Parts.{part_of}
 use Rattle.ptk_words.specs.Pools.{is_in, greatest, first_of_greatest}
 use Rattle.ptk_threads.specs.Table.{stored_of}
-use Rattle.ptk_threads_slots.specs.Links.{first_or}
-use Rattle.ptk_threads_slots.proofs.Along.{in_later, le_or_gt}
+use Rattle.ptk_threads.specs.Links.{first_or}
+use Rattle.ptk_threads.proofs.Along.{in_later, le_or_gt}
 use Rattle.ptk_ready.specs.declared.stamps.StampRange.{StampRange}
 use Rattle.ptk_ready.specs.Bits.{has_bit, IsGreatestBit}
 use Rattle.ptk_ready.specs.Entries.{has_any}

@@ -6,13 +6,13 @@ use Rattle.std.proofs.lemmas.Bool.{cases_eq, cases_Bool, and_parts, and_from, eq
 use Rattle.std.proofs.lemmas.List.{get_or-set_same, get_or-set_other, length-map}
 use Rattle.ptk_words.specs.Pools.{is_in, without}
 use Rattle.ptk_words.proofs.Lists.{in_here, in_head, out_of}
-use Rattle.ptk_words_parted.specs.Parts.{part_of}
+use Rattle.ptk_words.specs.Parts.{part_of}
 use Rattle.ptk_threads.specs.Table.{stored_of}
-use Rattle.ptk_threads_slots.specs.declared.link.Link.{Link}
-use Rattle.ptk_threads_slots.specs.declared.link.Ends.{Ends}
-use Rattle.ptk_threads_slots.specs.Links.{mark_of, queue_at, queue_from, queues, AreQueues}
-use Rattle.ptk_threads_slots.proofs.Along.{in_later, along_marked}
-use Rattle.ptk_threads_slots.proofs.Lists.{list_at}
+use Rattle.ptk_threads.specs.declared.link.Link.{Link}
+use Rattle.ptk_threads.specs.declared.link.Ends.{Ends}
+use Rattle.ptk_threads.specs.Links.{mark_of, queue_at, queue_from, queues, AreQueues}
+use Rattle.ptk_threads.proofs.Along.{in_later, along_marked}
+use Rattle.ptk_threads.proofs.Lists.{list_at}
 use Rattle.ptk_ready.specs.declared.stamps.StampRange.{StampRange}
 use Rattle.ptk_ready.specs.Bits.{has_bit, IsBitChanged}
 use Rattle.ptk_ready.specs.Orders.{placed}

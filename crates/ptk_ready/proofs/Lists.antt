@@ -7,12 +7,12 @@ use Rattle.std.proofs.lemmas.List.Elements.{filter-append}
 use Rattle.std.proofs.lemmas.Bool.{and_parts}
 use Rattle.ptk_words.specs.Pools.{is_in, numbers_to}
 use Rattle.ptk_words.proofs.Lists.{in_here}
-use Rattle.ptk_words_parted.specs.Parts.{part_of, joined}
-use Rattle.ptk_threads_slots.specs.declared.link.Link.{Link}
-use Rattle.ptk_threads_slots.specs.declared.link.Ends.{Ends}
-use Rattle.ptk_threads_slots.specs.Links.{queue_at, queues, AreQueues}
-use Rattle.ptk_threads_slots.proofs.Along.{in_left, in_right, in_parts, not_true, marked_within, along_marked}
-use Rattle.ptk_threads_slots.proofs.Lists.{list_at}
+use Rattle.ptk_words.specs.Parts.{part_of, joined}
+use Rattle.ptk_threads.specs.declared.link.Link.{Link}
+use Rattle.ptk_threads.specs.declared.link.Ends.{Ends}
+use Rattle.ptk_threads.specs.Links.{queue_at, queues, AreQueues}
+use Rattle.ptk_threads.proofs.Along.{in_left, in_right, in_parts, not_true, marked_within, along_marked}
+use Rattle.ptk_threads.proofs.Lists.{list_at}
 use Rattle.ptk_ready.specs.declared.stamps.StampRange.{StampRange}
 use Rattle.ptk_ready.specs.Orders.{in_order}
 use Rattle.ptk_ready.specs.Entries.{IsRange, is_ready, ready_of, stamp_of, entries, of_priority, has_any, IsSound}

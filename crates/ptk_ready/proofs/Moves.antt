@@ -7,13 +7,13 @@ use Rattle.std.proofs.lemmas.List.{get_or_past, get_or-set_same, get_or-set_othe
 use Rattle.ptk_words.specs.Pools.{is_in, without, pool_set}
 use Rattle.ptk_words.proofs.Options.{none_if_never_some}
 use Rattle.ptk_words.proofs.Lists.{in_here, in_head, out_of}
-use Rattle.ptk_words_parted.specs.Parts.{part_of}
+use Rattle.ptk_words.specs.Parts.{part_of}
 use Rattle.ptk_threads.specs.Table.{stored_of}
-use Rattle.ptk_threads_slots.specs.declared.link.Link.{Link}
-use Rattle.ptk_threads_slots.specs.declared.link.Ends.{Ends}
-use Rattle.ptk_threads_slots.specs.Links.{mark_of, first_or, queue_at, queues, AreQueues}
-use Rattle.ptk_threads_slots.proofs.Along.{in_later, not_true, le_or_gt, along_marked}
-use Rattle.ptk_threads_slots.proofs.Lists.{list_at}
+use Rattle.ptk_threads.specs.declared.link.Link.{Link}
+use Rattle.ptk_threads.specs.declared.link.Ends.{Ends}
+use Rattle.ptk_threads.specs.Links.{mark_of, first_or, queue_at, queues, AreQueues}
+use Rattle.ptk_threads.proofs.Along.{in_later, not_true, le_or_gt, along_marked}
+use Rattle.ptk_threads.proofs.Lists.{list_at}
 use Rattle.std.proofs.lemmas.Int.{ints}
 use Rattle.ptk_ready.specs.declared.stamps.StampRange.{StampRange}
 use Rattle.ptk_ready.specs.Bits.{IsBitChanged}

@@ -7,7 +7,7 @@ use Rattle.std.proofs.lemmas.Int.{ints}
 use Rattle.std.proofs.lemmas.Map.Keys.{IsDistinct-tail}
 use Rattle.ptk_words.specs.Pools.{is_in}
 use Rattle.ptk_words.proofs.Lists.{in_here, head_out, in_head}
-use Rattle.ptk_threads_slots.proofs.Along.{in_later}
+use Rattle.ptk_threads.proofs.Along.{in_later}
 use Rattle.ptk_ready.specs.Orders.{placed, in_order}
 
 -- ---- tests

@@ -9,15 +9,15 @@ use Rattle.ptk_words.specs.Pools.{is_in, without, pool_get, pool_set}
 use Rattle.ptk_words.specs.declared.threads.Thread.{Thread}
 use Rattle.ptk_words.proofs.Pools.{used_at}
 use Rattle.ptk_words.proofs.Lists.{out_of}
-use Rattle.ptk_words_parted.specs.Parts.{part_of}
+use Rattle.ptk_words.specs.Parts.{part_of}
 use Rattle.ptk_threads.specs.Table.{ThreadTable, thread_in, stored_of, with_stored, with_queues}
 use Rattle.ptk_threads.specs.Queues.{IsUnqueued, with_none, with_last, with_out}
-use Rattle.ptk_threads_slots.specs.declared.link.Ends.{Ends}
-use Rattle.ptk_threads_slots.specs.declared.slot.Slot.{Slot}
-use Rattle.ptk_threads_slots.specs.declared.link.QueueName.{QueueName}
-use Rattle.ptk_threads_slots.specs.Links.{links_of, threads_of, place_of, queues, AreQueues}
-use Rattle.ptk_threads_slots.proofs.Slots.{links_count}
-use Rattle.ptk_threads_slots.proofs.Along.{le_or_gt, not_true}
+use Rattle.ptk_threads.specs.declared.link.Ends.{Ends}
+use Rattle.ptk_threads.specs.declared.slot.Slot.{Slot}
+use Rattle.ptk_threads.specs.declared.link.QueueName.{QueueName}
+use Rattle.ptk_threads.specs.Links.{links_of, threads_of, place_of, queues, AreQueues}
+use Rattle.ptk_threads.proofs.LinkSlots.{links_count}
+use Rattle.ptk_threads.proofs.Along.{le_or_gt, not_true}
 use Rattle.ptk_ready.specs.Queues.{ready_queues, waiters_of, AreUnused}
 use Rattle.ptk_ready.specs.declared.entries.LinkedEntries.{LinkedEntries}
 use Rattle.ptk_ready.specs.Lines.{line_of, IsFiled}
@@ -26,7 +26,7 @@ use Rattle.ptk_ready.proofs.Moves.{out_without, stored_other}
 use Rattle.ptk_ready.proofs.Calls.{member_within, last_take}
 use Rattle.ptk_ready.specs.Partitions.{entries_at, lines_by, AreFiled}
 use Rattle.ptk_ready.specs.Laws.{lines_at, lines_long, filed_same, filed_take, line_take}
-use Rattle.ptk_threads_slots.proofs.Lists.{without_none}
+use Rattle.ptk_threads.proofs.Lists.{without_none}
 
 -- partition p's line is this list, and all others are as before
 pub record IsMoved (limit : ℕ) (line late : List (LinkedEntries limit)) (table now : ThreadTable) (p : ℕ) (xs : List ℕ) : Type 0 where

@@ -2,13 +2,13 @@
 use Rattle.std.proofs.Common.{◌≡◌, ℕ, zero, suc, ◌+◌, ◌<◌, ◌≤◌, List, [], ◌∷◌, ◌++◌, length, Bool, true, false, cond, ◌&&◌, refl, sym, ◌∙◌, ap, arith, get_or, inl, inr}
 use Rattle.std.specs.Prelude.{ℤ, pos, neg_ℤ, ◌+ℤ◌, ◌-ℤ◌, ◌<ℤ◌, int_lt, filter, map, option_map}
 use Rattle.ptk_words.specs.Pools.{is_in, numbers_to}
-use Rattle.ptk_threads_slots.specs.declared.link.Link.{Link}
-use Rattle.ptk_threads_slots.specs.declared.slot.Slot.{Slot}
-use Rattle.ptk_threads_slots.specs.Links.{links_of, own_link, no_link, place_of}
+use Rattle.ptk_threads.specs.declared.link.Link.{Link}
+use Rattle.ptk_threads.specs.declared.slot.Slot.{Slot}
+use Rattle.ptk_threads.specs.Links.{links_of, own_link, no_link, place_of}
 use Rattle.ptk_ready.specs.Entries.{is_ready, is_ready_place, ready_of, stamp_of, entries, AreStamps}
 use Rattle.ptk_ready.specs.declared.stamps.StampRange.{StampRange}
 use Rattle.ptk_ready.specs.Stamps.{rank, renumbered}
-use Rattle.ptk_threads_slots.proofs.Along.{not_true, marked_within}
+use Rattle.ptk_threads.proofs.Along.{not_true, marked_within}
 use Rattle.std.proofs.Math.ListN.{set}
 use Rattle.std.proofs.lemmas.Bool.{cases_eq, cases_Bool}
 use Rattle.std.proofs.lemmas.Int.{ints}

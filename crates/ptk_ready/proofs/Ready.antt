@@ -8,9 +8,9 @@ use Rattle.std.proofs.lemmas.Map.Keys.{IsDistinct-push}
 use Rattle.std.proofs.lemmas.Bool.{and_parts}
 use Rattle.ptk_words.specs.Pools.{is_in, numbers_to}
 use Rattle.ptk_words.proofs.Lists.{distinct-filter, none_distinct, in_here, in_head}
-use Rattle.ptk_threads_slots.specs.declared.link.Link.{Link}
-use Rattle.ptk_threads_slots.specs.Links.{mark_of}
-use Rattle.ptk_threads_slots.proofs.Along.{in_left, in_right, in_parts, not_true, le_or_gt, marked_within}
+use Rattle.ptk_threads.specs.declared.link.Link.{Link}
+use Rattle.ptk_threads.specs.Links.{mark_of}
+use Rattle.ptk_threads.proofs.Along.{in_left, in_right, in_parts, not_true, le_or_gt, marked_within}
 use Rattle.ptk_ready.specs.declared.stamps.StampRange.{StampRange}
 use Rattle.ptk_ready.specs.Entries.{is_ready_place, is_ready, ready_of, stamp_of, entries, AreStamps}
 use Rattle.ptk_ready.proofs.Orders.{IsInOrder, same_test, in_sorted, in_kept, order_sorted, order_apart, same_list}

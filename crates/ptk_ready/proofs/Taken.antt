@@ -6,15 +6,15 @@ use Rattle.std.proofs.lemmas.Bool.{cases_eq, eq-eqb, ne_eqb, and_parts, and_from
 use Rattle.std.proofs.lemmas.List.{get_or_past, get_or-set_same, get_or-set_other, length-set}
 use Rattle.ptk_words.specs.Pools.{is_in, without, numbers_to, first_of_greatest}
 use Rattle.ptk_words.proofs.Lists.{distinct-filter, in_here, in_head, out_of}
-use Rattle.ptk_words_parted.specs.Parts.{part_of}
+use Rattle.ptk_words.specs.Parts.{part_of}
 use Rattle.ptk_threads.specs.Table.{stored_of}
 use Rattle.ptk_threads.specs.Queues.{without_first}
-use Rattle.ptk_threads_slots.specs.declared.link.QueueName.{QueueName}
-use Rattle.ptk_threads_slots.specs.declared.queues.FirstThread.{FirstThread}
-use Rattle.ptk_threads_slots.specs.Links.{place_of, first_or}
-use Rattle.ptk_threads_slots.specs.Changes.{first_in}
-use Rattle.ptk_threads_slots.proofs.Along.{in_later, not_true, le_or_gt}
-use Rattle.ptk_threads_slots.proofs.Lists.{without_none}
+use Rattle.ptk_threads.specs.declared.link.QueueName.{QueueName}
+use Rattle.ptk_threads.specs.declared.queues.FirstThread.{FirstThread}
+use Rattle.ptk_threads.specs.Links.{place_of, first_or}
+use Rattle.ptk_threads.specs.LinkChanges.{first_in}
+use Rattle.ptk_threads.proofs.Along.{in_later, not_true, le_or_gt}
+use Rattle.ptk_threads.proofs.Lists.{without_none}
 use Rattle.ptk_ready.specs.declared.stamps.StampRange.{StampRange}
 use Rattle.ptk_ready.specs.Bits.{has_bit, IsBitChanged, IsGreatestBit}
 use Rattle.ptk_ready.specs.Entries.{stamp_of, of_priority, has_any}

@@ -4,9 +4,9 @@ use Rattle.std.specs.Prelude.{Option, Some, None}
 use Rattle.std.proofs.lemmas.List.{length-set}
 use Rattle.ptk_words.specs.Pools.{least_free}
 use Rattle.ptk_words.specs.declared.threads.Thread.{Thread}
-use Rattle.ptk_words_parted.proofs.Entries.{all_empty}
+use Rattle.ptk_words.proofs.Entries.{all_empty}
 use Rattle.ptk_threads.specs.Table.{ThreadTable, with_new, with_new_at}
-use Rattle.ptk_words_parted.specs.Parts.{part_of}
+use Rattle.ptk_words.specs.Parts.{part_of}
 use Rattle.ptk_threads.specs.Queues.{no_queues}
 use Rattle.ptk_ready.specs.Queues.{AreUnused}
 

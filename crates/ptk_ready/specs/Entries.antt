@@ -2,9 +2,9 @@
 use Rattle.std.specs.Prelude.{◌≡◌, ℕ, zero, suc, ◌<◌, ◌==◌, nat_lt, Bool, true, false, ℤ, pos, ◌≤ℤ◌, neg_ℤ, List, [], ◌∷◌, length, filter, Option, Some, None, slice_index_or}
 use Rattle.ptk_words.specs.Pools.{numbers_to}
 use Rattle.ptk_threads.specs.Table.{stored_of}
-use Rattle.ptk_threads_slots.specs.declared.link.Link.{Link}
-use Rattle.ptk_threads_slots.specs.declared.link.Ends.{Ends}
-use Rattle.ptk_threads_slots.specs.Links.{mark_of, queue_at, AreQueues}
+use Rattle.ptk_threads.specs.declared.link.Link.{Link}
+use Rattle.ptk_threads.specs.declared.link.Ends.{Ends}
+use Rattle.ptk_threads.specs.Links.{mark_of, queue_at, AreQueues}
 use Rattle.ptk_ready.specs.declared.stamps.StampRange.{StampRange}
 use Rattle.ptk_ready.specs.Orders.{in_order}
 use Rattle.ptk_ready.specs.Bits.{has_bit}

@@ -7,9 +7,9 @@ use Rattle.std.proofs.lemmas.List.{ext_get_or, get_or_past, get_or-take, length-
 use Rattle.std.proofs.lemmas.Map.Views.{any-filter_same}
 use Rattle.ptk_words.specs.Pools.{is_in, numbers_to}
 use Rattle.ptk_words.proofs.Lists.{in_here}
-use Rattle.ptk_words_parted.specs.Parts.{part_of, joined}
+use Rattle.ptk_words.specs.Parts.{part_of, joined}
 use Rattle.ptk_threads.specs.Table.{ThreadTable, stored_of}
-use Rattle.ptk_threads_slots.proofs.Along.{in_later, le_or_gt, not_true}
+use Rattle.ptk_threads.proofs.Along.{in_later, le_or_gt, not_true}
 use Rattle.ptk_ready.specs.Queues.{ready_queues}
 use Rattle.ptk_ready.specs.declared.entries.LinkedEntries.{LinkedEntries}
 use Rattle.ptk_ready.specs.declared.stamps.StampRange.{StampRange}

@@ -1,8 +1,8 @@
 -- The line of one partition's ready threads, read from the lists of its queues and the stamps, whatever the links (XSH 2.8.4).
 use Rattle.std.specs.Prelude.{◌≡◌, ℕ, suc, ◌<◌, true, ℤ, List, take, filter, Option, Some, None}
 use Rattle.ptk_words.specs.Pools.{is_in, without, numbers_to}
-use Rattle.ptk_words_parted.specs.Parts.{part_of, joined}
-use Rattle.ptk_threads_slots.specs.declared.link.QueueName.TheVariants.{Ready}
+use Rattle.ptk_words.specs.Parts.{part_of, joined}
+use Rattle.ptk_threads.specs.declared.link.QueueName.TheVariants.{Ready}
 use Rattle.ptk_threads.specs.Queues.{with_none, with_last, with_before}
 use Rattle.ptk_ready.specs.declared.stamps.StampRange.{StampRange}
 use Rattle.ptk_ready.specs.Bits.{has_bit}

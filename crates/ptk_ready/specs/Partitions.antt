@@ -1,6 +1,6 @@
 -- The lines of all partitions, read from what is kept for each and from the slot table's queues (XSH 2.8.4).
 use Rattle.std.specs.Prelude.{◌≡◌, ℕ, pos, ◌<◌, List, [], ◌∷◌, length, slice_index_or}
-use Rattle.ptk_words_parted.specs.Parts.{part_of}
+use Rattle.ptk_words.specs.Parts.{part_of}
 use Rattle.ptk_threads.specs.Table.{ThreadTable}
 use Rattle.ptk_ready.specs.declared.entries.LinkedEntries.{LinkedEntries}
 use Rattle.ptk_ready.specs.Lines.{line_of, IsFiled}

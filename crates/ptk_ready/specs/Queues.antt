@@ -4,9 +4,9 @@ use Rattle.std.specs.Prelude.{Option, Some, None}
 use Rattle.std.proofs.Math.ListN.{get_or-map}
 use Rattle.std.proofs.lemmas.List.{get_or-take}
 use Rattle.ptk_words.specs.Pools.{is_in}
-use Rattle.ptk_words_parted.specs.Parts.{part_of}
+use Rattle.ptk_words.specs.Parts.{part_of}
 use Rattle.ptk_threads.specs.Queues.{with_out}
-use Rattle.ptk_threads_slots.specs.declared.link.QueueName.{QueueName}
+use Rattle.ptk_threads.specs.declared.link.QueueName.{QueueName}
 
 -- by partition: the first 32 queues, one for each priority
 abbrev pub ready_queues : List (List (List ℕ)) → List (List (List ℕ))

@@ -1,6 +1,6 @@
 -- The numbering anew of the ready threads' stamps.
 use Rattle.std.specs.Prelude.{ℕ, ℤ, pos, int_lt, List, length, filter, map}
-use Rattle.ptk_threads_slots.specs.declared.link.Link.{Link}
+use Rattle.ptk_threads.specs.declared.link.Link.{Link}
 use Rattle.ptk_ready.specs.Entries.{ready_of, stamp_of}
 
 -- how many ready threads have a lesser stamp

@@ -2,10 +2,10 @@
 
 ghost use Rattle.std.specs.Prelude.{◌≡◌, ℕ, ◌<◌, ◌≤◌, ◌^◌, true, false, pos, ◌<ℤ◌, not, is_some, option_map, ◌||◌, List, [], ◌∷◌, ◌++◌, length, drop};
 ghost use Rattle.ptk_words.specs.Pools.{pool_set, without, first_of_greatest, is_in};
-ghost use Rattle.ptk_words_parted.specs.Parts.{part_of};
+ghost use Rattle.ptk_words.specs.Parts.{part_of};
 ghost use Rattle.ptk_threads.specs.Table.{stored_of};
 ghost use Rattle.ptk_threads.specs.Queues.{IsUnqueued, with_last, with_first, with_none};
-ghost use Rattle.ptk_threads_slots.specs.Links.{links_of, place_of, queues, AreQueues};
+ghost use Rattle.ptk_threads.specs.Links.{links_of, place_of, queues, AreQueues};
 ghost use Rattle.ptk_ready.specs.Bits.{has_bit, IsBitChanged, IsGreatestBit};
 ghost use Rattle.ptk_ready.specs.Entries.{entries, is_ready_place, is_ready, stamp_of, IsInRange, AreStamps};
 ghost use Rattle.ptk_ready.specs.Lines.{line_of, with_refiled, IsFiled};
@@ -13,8 +13,7 @@ ghost use Rattle.ptk_ready.specs.Lines.{line_of, with_refiled, IsFiled};
 use crate::bits::{greatest_bit, with_bit, without_bit};
 use crate::places::first_after;
 use crate::stamps::{NUMBERS, StampRange, is_ready_queue, renumbered, stamp_in};
-use ptk_threads::stored_in;
-use ptk_threads_slots::{Ends, Link, QueueName, Slot, link_of};
+use ptk_threads::{Ends, Link, QueueName, Slot, link_of, stored_in};
 use ptk_words::{Priority, ThreadNo};
 
 /// What a partition's line keeps beside the links: each number's stamp, the queues of ready threads that are not empty,

@@ -2,9 +2,9 @@
 
 ghost use Rattle.std.specs.Prelude.{◌≡◌, ◌↔◌, ℕ, ℤ, ◌≤◌, true, false, List, length, Some, None};
 ghost use Rattle.ptk_words.specs.Pools.{is_in};
-ghost use Rattle.ptk_threads_slots.specs.declared.link.Ends.{Ends};
-ghost use Rattle.ptk_threads_slots.specs.declared.link.Link.{Link};
-ghost use Rattle.ptk_threads_slots.specs.Links.{mark_of, queue_at, queues, AreQueues};
+ghost use Rattle.ptk_threads.specs.declared.link.Ends.{Ends};
+ghost use Rattle.ptk_threads.specs.declared.link.Link.{Link};
+ghost use Rattle.ptk_threads.specs.Links.{mark_of, queue_at, queues, AreQueues};
 ghost use Rattle.ptk_ready.specs.declared.stamps.StampRange.{StampRange};
 ghost use Rattle.ptk_ready.specs.Entries.{entries, is_ready, IsSound};
 ghost use Rattle.ptk_ready.specs.Lines.{line_of, IsFiled};

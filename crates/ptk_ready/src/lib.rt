@@ -21,7 +21,7 @@
 //! ends give the next stamp at either end of the line, and a bitmap of the queues that are not empty, whose highest bit
 //! finds the first of the greatest priority. Its calls read the links and change these alone; each says which call of
 //! the slot table is to follow, and `LinkedLine` makes that call. A changed priority moves nobody. Below are
-//! `ptk_words_parted`, the queue of threads, `ptk_threads_slots`, the links, and `ptk_threads`, the slot table; above
+//! `ptk_words`, the queue of threads, `ptk_threads`, the links, and `ptk_threads`, the slot table; above
 //! is every crate that makes threads wait or run. Costly to prove is that one list is sorted by stamp and has exactly
 //! the ready threads (`proofs/Orders`), that each queue stays its part of that list (`proofs/Kept`), and that one
 //! partition's change leaves the lines of the others (`proofs/Partitions`).
@@ -41,6 +41,6 @@ pub use entries::LinkedEntries;
 pub use laws::{lists_tell_line, marks_tell_queues};
 pub use line::Line;
 pub use linked_line::LinkedLine;
-pub use ptk_words_parted::Queue;
+pub use ptk_words::Queue;
 pub use stamps::is_ready_queue;
 pub use vec_line::VecLine;

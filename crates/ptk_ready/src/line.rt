@@ -2,7 +2,7 @@
 
 ghost use Rattle.std.specs.Prelude.{◌≡◌, ℕ, ◌<◌, ◌≤◌, true, false, List, [], ◌∷◌, ◌++◌, length, slice_set, IsSome};
 ghost use Rattle.ptk_words.specs.Pools.{pool_set, without, first_of_greatest, is_in};
-ghost use Rattle.ptk_words_parted.specs.Parts.{part_of};
+ghost use Rattle.ptk_words.specs.Parts.{part_of};
 ghost use Rattle.ptk_threads.specs.Table.{ThreadTable, thread_in, stored_of};
 ghost use Rattle.ptk_threads.specs.Queues.{IsUnqueued};
 ghost use Rattle.ptk_ready.specs.Queues.{ready_queues, waiters_of};

@@ -2,10 +2,10 @@
 
 ghost use Rattle.std.specs.Prelude.{◌≡◌, ◌<◌, ◌≤◌, ◌^◌, false, [], ◌∷◌, ◌++◌, length, IfOk, IfSome, IsSome, replicate, slice_set};
 ghost use Rattle.ptk_words.specs.Pools.{is_in};
-ghost use Rattle.ptk_words_parted.specs.Parts.{part_of};
+ghost use Rattle.ptk_words.specs.Parts.{part_of};
 ghost use Rattle.ptk_threads.specs.Table.{ThreadTable, thread_in, stored_of, with_changed, with_queues};
 ghost use Rattle.ptk_threads.specs.Queues.{IsUnqueued};
-ghost use Rattle.ptk_threads_slots.specs.Links.{place_of};
+ghost use Rattle.ptk_threads.specs.Links.{place_of};
 ghost use Rattle.ptk_threads.specs.Schedule.{woken_with};
 ghost use Rattle.ptk_ready.specs.Queues.{AreUnused, waiters_of, with_out_of};
 ghost use Rattle.ptk_ready.specs.Lines.{with_refiled};

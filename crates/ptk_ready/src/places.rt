@@ -1,11 +1,11 @@
 //! The place of a thread in a queue in order of stamps.
 
 ghost use Rattle.std.specs.Prelude.{◌≡◌, suc, length, int_lt, find};
-ghost use Rattle.ptk_threads_slots.specs.Links.{links_of, walk};
+ghost use Rattle.ptk_threads.specs.Links.{links_of, walk};
 ghost use Rattle.ptk_ready.specs.Entries.{stamp_of};
 
 use crate::stamps::{NUMBERS, stamp_in};
-use ptk_threads_slots::{Slot, link_of};
+use ptk_threads::{Slot, link_of};
 use ptk_words::ThreadNo;
 
 /// The first thread of a greater stamp along the links, from a thread on.

@@ -1,11 +1,11 @@
 //! The stamps of a partition's numbers.
 
 ghost use Rattle.std.specs.Prelude.{◌≡◌, ◌≤◌, ◌&&◌, length, int_lt, option_map};
-ghost use Rattle.ptk_threads_slots.specs.Links.{links_of, place_of};
+ghost use Rattle.ptk_threads.specs.Links.{links_of, place_of};
 ghost use Rattle.ptk_ready.specs.Entries.{is_ready_place, stamp_of};
 ghost use Rattle.ptk_ready.specs.Stamps.{rank, renumbered};
 
-use ptk_threads_slots::{QueueName, Slot};
+use ptk_threads::{QueueName, Slot};
 use ptk_words::ThreadNo;
 
 /// How many numbers a partition has at most.

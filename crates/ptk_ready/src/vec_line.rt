@@ -2,7 +2,7 @@
 
 ghost use Rattle.std.specs.Prelude.{◌≡◌, ℕ, ◌<◌, false, List, [], ◌∷◌, ◌++◌, length, slice_set, IfOk, IsSome, replicate};
 ghost use Rattle.ptk_words.specs.Pools.{without, first_of_greatest, is_in};
-ghost use Rattle.ptk_words_parted.specs.Parts.{part_of};
+ghost use Rattle.ptk_words.specs.Parts.{part_of};
 ghost use Rattle.ptk_threads.specs.Table.{free_table, thread_in, stored_of, with_stored};
 ghost use Rattle.ptk_ready.specs.Queues.{AreUnused};
 ghost use Rattle.ptk_ready.specs.Lines.{without_one};
@@ -10,8 +10,7 @@ ghost use Rattle.ptk_ready.specs.Lines.{without_one};
 use crate::choice::first_of_greatest;
 use crate::line::Line;
 use ptk_threads::Threads;
-use ptk_words::{PartId, Priority, ThreadNo};
-use ptk_words_parted::Queue;
+use ptk_words::{PartId, Priority, Queue, ThreadNo};
 use std::alloc::{AllocError, Global};
 use std::marker::Model;
 

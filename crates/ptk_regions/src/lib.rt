@@ -6,16 +6,15 @@
 //! - `lend` and `write` change p's alone.
 //! - `read` returns None at and past the end of p's bytes.
 //!
-//! Below are `ptk_words_parted`, which cuts the vector, and `ptk_words`; above are the gate and the kernel. No clause
+//! Below are `ptk_words`, which cuts the vector, and `ptk_words`; above are the gate and the kernel. No clause
 //! is costly to prove.
 
 ghost use Rattle.std.specs.Prelude.{◌≡◌, ℕ, ◌<◌, ◌≤◌, length, slice_get, slice_set, IfOk, IsTrue, ◌↔◌, map};
 ghost use Rattle.std.specs.Borrow.{sem};
-ghost use Rattle.ptk_words_parted.specs.Parts.{part_of, joined, filled};
+ghost use Rattle.ptk_words.specs.Parts.{part_of, joined, filled};
 ghost use Rattle.ptk_regions.specs.Lending.{LendsRegion};
 
-use ptk_words::PartId;
-use ptk_words_parted::Parted;
+use ptk_words::{PartId, Parted};
 use std::alloc::{AllocError, Global};
 use std::marker::Model;
 

@@ -3,7 +3,7 @@
 ghost use Rattle.std.specs.Prelude.{◌^◌, ◌≡◌, ◌+◌, ◌*◌, ◌%◌, ◌-◌, ℕ, List};
 ghost use Rattle.ptk_words.specs.Words.{word_of, sign_extension};
 ghost use Rattle.ptk_words.specs.Processor.{register, with_register as after_write};
-ghost use Rattle.ptk_words_instructions.specs.Instructions.{with_next_pc, link_effect};
+ghost use Rattle.ptk_words_model.specs.Instructions.{with_next_pc, link_effect};
 ghost use Rattle.ptk_rv32i.specs.Values.{immediate_value, shift_value, register_value};
 ghost use Rattle.ptk_rv32i.specs.Effects.{at_pc, operands, seen, after, effect_of_instr};
 

@@ -1,7 +1,7 @@
 //! One instruction of a processor.
 
 ghost use Rattle.std.specs.Prelude.{◌≡◌};
-ghost use Rattle.ptk_words_instructions.specs.Instructions.{effect_at};
+ghost use Rattle.ptk_words_model.specs.Instructions.{effect_at};
 ghost use Rattle.ptk_rv32i.specs.Effects.{seen, after};
 
 use crate::outcome::Outcome;

@@ -1,7 +1,7 @@
 -- A word is made of its fields, and its fields are those that it was made of.
 use Rattle.std.proofs.Common.{◌≡◌, ℕ, ◌^◌, ◌<◌, arith}
-use Rattle.ptk_words_instructions.specs.Instructions.{rd_of, rs1_of, rs2_of}
-use Rattle.ptk_words_instructions.specs.Fields.{opcode_of, funct3_of, funct7_of}
+use Rattle.ptk_words_model.specs.Instructions.{rd_of, rs1_of, rs2_of}
+use Rattle.ptk_words_model.specs.Fields.{opcode_of, funct3_of, funct7_of}
 use Rattle.ptk_rv32i_code.specs.Coding.{i_bits, s_bits, b_bits, u_bits, j_bits, r_coded, i_coded, s_coded, b_coded, u_coded, j_coded}
 
 -- ---- a word from its fields

@@ -1,8 +1,8 @@
 //! A word as an instruction.
 
 ghost use Rattle.std.specs.Prelude.{◌≡◌, ◌<◌, ◌⊎◌, IfSome};
-ghost use Rattle.ptk_words_instructions.specs.Instructions.{rd_of, rs1_of, rs2_of};
-ghost use Rattle.ptk_words_instructions.specs.Fields.{opcode_of, funct3_of, funct7_of};
+ghost use Rattle.ptk_words_model.specs.Instructions.{rd_of, rs1_of, rs2_of};
+ghost use Rattle.ptk_words_model.specs.Fields.{opcode_of, funct3_of, funct7_of};
 ghost use Rattle.ptk_rv32i_code.specs.Coding.{i_bits, s_bits, b_bits, u_bits, j_bits, decoded, decoded_by_fields, encoded};
 
 use crate::fields::{BranchOffset, Immediate, JumpOffset, Register, ShiftAmount, UpperImmediate};
@@ -115,7 +115,7 @@ fn funct7(word: u32) -> u32
 }
 
 /// A branch.
-#[tactic(auto, using(crate::proofs::Coded::b_again), unfolding(ptk_words_instructions::specs::Fields::row_by))]
+#[tactic(auto, using(crate::proofs::Coded::b_again), unfolding(ptk_words_model::specs::Fields::row_by))]
 #[inline(always)]
 fn decode_branch(word: u32) -> Option<Instr>
     requires { opcode_of word ≡ 99 }
@@ -140,7 +140,7 @@ fn decode_branch(word: u32) -> Option<Instr>
 }
 
 /// A load.
-#[tactic(auto, using(crate::proofs::Coded::i_again), unfolding(ptk_words_instructions::specs::Fields::row_by))]
+#[tactic(auto, using(crate::proofs::Coded::i_again), unfolding(ptk_words_model::specs::Fields::row_by))]
 #[inline(always)]
 fn decode_load(word: u32) -> Option<Instr>
     requires { opcode_of word ≡ 3 }
@@ -164,7 +164,7 @@ fn decode_load(word: u32) -> Option<Instr>
 }
 
 /// A store.
-#[tactic(auto, using(crate::proofs::Coded::s_again), unfolding(ptk_words_instructions::specs::Fields::row_by))]
+#[tactic(auto, using(crate::proofs::Coded::s_again), unfolding(ptk_words_model::specs::Fields::row_by))]
 #[inline(always)]
 fn decode_store(word: u32) -> Option<Instr>
     requires { opcode_of word ≡ 35 }
@@ -186,7 +186,7 @@ fn decode_store(word: u32) -> Option<Instr>
 }
 
 /// An operation on two registers.
-#[tactic(auto, using(crate::proofs::Coded::r_again), unfolding(ptk_words_instructions::specs::Fields::row_by))]
+#[tactic(auto, using(crate::proofs::Coded::r_again), unfolding(ptk_words_model::specs::Fields::row_by))]
 #[inline(always)]
 fn decode_op(word: u32) -> Option<Instr>
     requires { opcode_of word ≡ 51 }
@@ -215,7 +215,7 @@ fn decode_op(word: u32) -> Option<Instr>
 }
 
 /// A shift by a constant.
-#[tactic(auto, using(crate::proofs::Coded::r_again), unfolding(ptk_words_instructions::specs::Fields::row_by))]
+#[tactic(auto, using(crate::proofs::Coded::r_again), unfolding(ptk_words_model::specs::Fields::row_by))]
 #[inline(always)]
 fn decode_shift(word: u32) -> Option<Instr>
     requires opcode { opcode_of word ≡ 19 }
@@ -238,7 +238,7 @@ fn decode_shift(word: u32) -> Option<Instr>
 }
 
 /// An operation with an immediate.
-#[tactic(auto, using(crate::proofs::Coded::i_again), unfolding(ptk_words_instructions::specs::Fields::row_by))]
+#[tactic(auto, using(crate::proofs::Coded::i_again), unfolding(ptk_words_model::specs::Fields::row_by))]
 #[inline(always)]
 fn decode_op_immediate(word: u32) -> Option<Instr>
     requires { opcode_of word ≡ 19 }
@@ -263,7 +263,7 @@ fn decode_op_immediate(word: u32) -> Option<Instr>
 }
 
 /// A jump to a register.
-#[tactic(auto, using(crate::proofs::Coded::i_again), unfolding(ptk_words_instructions::specs::Fields::row_by))]
+#[tactic(auto, using(crate::proofs::Coded::i_again), unfolding(ptk_words_model::specs::Fields::row_by))]
 #[inline(always)]
 fn decode_jalr(word: u32) -> Option<Instr>
     requires { opcode_of word ≡ 103 }
@@ -281,7 +281,7 @@ fn decode_jalr(word: u32) -> Option<Instr>
 }
 
 /// A fence.
-#[tactic(auto, using(crate::proofs::Coded::i_again), unfolding(ptk_words_instructions::specs::Fields::row_by))]
+#[tactic(auto, using(crate::proofs::Coded::i_again), unfolding(ptk_words_model::specs::Fields::row_by))]
 #[inline(always)]
 fn decode_fence(word: u32) -> Option<Instr>
     requires { opcode_of word ≡ 15 }
@@ -299,7 +299,7 @@ fn decode_fence(word: u32) -> Option<Instr>
 }
 
 /// A call or a break.
-#[tactic(auto, unfolding(ptk_words_instructions::specs::Fields::row_by))]
+#[tactic(auto, unfolding(ptk_words_model::specs::Fields::row_by))]
 #[inline(always)]
 fn decode_system(word: u32) -> Option<Instr>
     requires { opcode_of word ≡ 115 }
@@ -314,7 +314,7 @@ fn decode_system(word: u32) -> Option<Instr>
 }
 
 /// The instruction of a word, by its opcode.
-#[tactic(auto, using(crate::proofs::Coded::uj_again), unfolding(ptk_words_instructions::specs::Fields::row_by))]
+#[tactic(auto, using(crate::proofs::Coded::uj_again), unfolding(ptk_words_model::specs::Fields::row_by))]
 #[inline(always)]
 fn decode_by_opcode(word: u32) -> Option<Instr>
     ensures decoded { result ≡ decoded_by_fields word }

@@ -1,8 +1,8 @@
 //! An instruction as its word.
 
 ghost use Rattle.std.specs.Prelude.{◌≡◌, ◌<◌, ◌^◌, Some};
-ghost use Rattle.ptk_words_instructions.specs.Instructions.{rd_of, rs1_of, rs2_of};
-ghost use Rattle.ptk_words_instructions.specs.Fields.{opcode_of, funct3_of, funct7_of};
+ghost use Rattle.ptk_words_model.specs.Instructions.{rd_of, rs1_of, rs2_of};
+ghost use Rattle.ptk_words_model.specs.Fields.{opcode_of, funct3_of, funct7_of};
 ghost use Rattle.ptk_rv32i_code.specs.Coding.{i_bits, s_bits, b_bits, u_bits, j_bits, decoded, decoded_by_fields, encoded, r_coded, i_coded, s_coded, b_coded, u_coded, j_coded, test_code, load_code, store_code, immediate_code, shift_code, register_code};
 
 use crate::fields::{BranchOffset, Immediate, JumpOffset, Register, ShiftAmount, UpperImmediate};
@@ -134,7 +134,7 @@ fn branch_code(test: BranchTest) -> u32
 }
 
 /// A branch.
-#[tactic(auto, unfolding(ptk_words_instructions::specs::Fields::row_by))]
+#[tactic(auto, unfolding(ptk_words_model::specs::Fields::row_by))]
 fn encode_branch(test: BranchTest, rs1: Register, rs2: Register, offset: BranchOffset) -> u32
     ensures value { result ≡ b_coded 99 (test_code test) rs1 rs2 offset }
     ensures again { decoded_by_fields result ≡ Some (Instr.Branch test rs1 rs2 offset) }
@@ -143,7 +143,7 @@ fn encode_branch(test: BranchTest, rs1: Register, rs2: Register, offset: BranchO
 }
 
 /// A load.
-#[tactic(auto, unfolding(ptk_words_instructions::specs::Fields::row_by))]
+#[tactic(auto, unfolding(ptk_words_model::specs::Fields::row_by))]
 fn encode_load(kind: LoadKind, rd: Register, rs1: Register, offset: Immediate) -> u32
     ensures value { result ≡ i_coded 3 (load_code kind) rd rs1 offset }
     ensures again { decoded_by_fields result ≡ Some (Instr.Load kind rd rs1 offset) }
@@ -159,7 +159,7 @@ fn encode_load(kind: LoadKind, rd: Register, rs1: Register, offset: Immediate) -
 }
 
 /// A store.
-#[tactic(auto, unfolding(ptk_words_instructions::specs::Fields::row_by))]
+#[tactic(auto, unfolding(ptk_words_model::specs::Fields::row_by))]
 fn encode_store(kind: StoreKind, rs1: Register, rs2: Register, offset: Immediate) -> u32
     ensures value { result ≡ s_coded 35 (store_code kind) rs1 rs2 offset }
     ensures again { decoded_by_fields result ≡ Some (Instr.Store kind rs1 rs2 offset) }
@@ -173,7 +173,7 @@ fn encode_store(kind: StoreKind, rs1: Register, rs2: Register, offset: Immediate
 }
 
 /// An operation with an immediate.
-#[tactic(auto, unfolding(ptk_words_instructions::specs::Fields::row_by))]
+#[tactic(auto, unfolding(ptk_words_model::specs::Fields::row_by))]
 fn encode_with_immediate(op: ImmediateOp, rd: Register, rs1: Register, immediate: Immediate) -> u32
     ensures value { result ≡ i_coded 19 (immediate_code op) rd rs1 immediate }
     ensures again { decoded_by_fields result ≡ Some (Instr.WithImmediate op rd rs1 immediate) }
@@ -190,7 +190,7 @@ fn encode_with_immediate(op: ImmediateOp, rd: Register, rs1: Register, immediate
 }
 
 /// A shift by a constant.
-#[tactic(auto, unfolding(ptk_words_instructions::specs::Fields::row_by))]
+#[tactic(auto, unfolding(ptk_words_model::specs::Fields::row_by))]
 fn encode_shift(op: ShiftOp, rd: Register, rs1: Register, amount: ShiftAmount) -> u32
     ensures value { let code = shift_code op in result ≡ r_coded 19 code.0 code.1 rd rs1 amount }
     ensures again { decoded_by_fields result ≡ Some (Instr.Shift op rd rs1 amount) }
@@ -204,7 +204,7 @@ fn encode_shift(op: ShiftOp, rd: Register, rs1: Register, amount: ShiftAmount) -
 }
 
 /// An operation on two registers.
-#[tactic(auto, unfolding(ptk_words_instructions::specs::Fields::row_by))]
+#[tactic(auto, unfolding(ptk_words_model::specs::Fields::row_by))]
 fn encode_with_register(op: RegisterOp, rd: Register, rs1: Register, rs2: Register) -> u32
     ensures value { let code = register_code op in result ≡ r_coded 51 code.0 code.1 rd rs1 rs2 }
     ensures again { decoded_by_fields result ≡ Some (Instr.WithRegister op rd rs1 rs2) }
@@ -225,7 +225,7 @@ fn encode_with_register(op: RegisterOp, rd: Register, rs1: Register, rs2: Regist
 }
 
 /// The word of an instruction, by its group.
-#[tactic(auto, unfolding(ptk_words_instructions::specs::Fields::row_by))]
+#[tactic(auto, unfolding(ptk_words_model::specs::Fields::row_by))]
 fn encode_by_group(instr: Instr) -> u32
     ensures value { result ≡ encoded instr }
     ensures again { decoded_by_fields result ≡ Some instr }

@@ -8,7 +8,7 @@
 //!
 //! The code decides by opcode, then by funct3; `rd` to `jump_offset` read one field of a word each. The weight of the
 //! proofs is in `decoding` (the table by fields, one major opcode a function) and `encoding` (one layout a function).
-//! Below are `ptk_words` and `ptk_words_instructions`; `ptk_rv32i` above passes on every name of this crate.
+//! Below are `ptk_words` and `ptk_words_model`; `ptk_rv32i` above passes on every name of this crate.
 
 mod decoding;
 mod encoding;

@@ -2,8 +2,8 @@
 use Rattle.std.proofs.Common.{ℕ, zero, suc, ◌+◌, ◌≤◌, List, Option, arith}
 use Rattle.ptk_words.specs.declared.sections.Arrival.{Arrival}
 use Rattle.ptk_words.specs.declared.sections.Limits.{Limits}
-use Rattle.ptk_words_windows.specs.Windows.{WindowPlan, IsPlan, own_ticks}
-use Rattle.ptk_words_windows.proofs.OwnLaws.{window_whole}
+use Rattle.ptk_words_model.specs.Windows.{WindowPlan, IsPlan, own_ticks}
+use Rattle.ptk_words_model.proofs.OwnLaws.{window_whole}
 use Rattle.ptk_words_model.specs.Run.{alone, start}
 use Rattle.ptk_system_machine.specs.Accounts.{IsBehind}
 use Rattle.ptk_system_machine.proofs.Behind.{next_active, until_behind}

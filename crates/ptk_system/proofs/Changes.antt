@@ -10,7 +10,7 @@ use Rattle.ptk_words.specs.declared.threads.Thread.{Thread}
 use Rattle.ptk_words.specs.declared.threads.Wait.{Wait}
 use Rattle.ptk_words.specs.declared.threads.Wait.TheVariants.{InputWait, SleepWait, JoinWait, MutexWait, ConditionWait, RelockWait}
 use Rattle.ptk_words.proofs.Lists.{first_none, empty_from_no_first}
-use Rattle.ptk_words_windows.specs.Windows.{OwnTicks}
+use Rattle.ptk_words_model.specs.Windows.{OwnTicks}
 use Rattle.ptk_words_model.specs.declared.Runner.{Runner}
 use Rattle.ptk_words_model.specs.declared.Spent.{Spent}
 use Rattle.ptk_words_model.specs.declared.Spent.TheVariants.{Step, Idle, Lost}
@@ -28,9 +28,9 @@ use Rattle.ptk_words_sync_invariant.proofs.Expiries.{in_turn, next_least, next_o
 use Rattle.ptk_words_sync_invariant.specs.Locks.{is_ready}
 use Rattle.ptk_words_invariant.specs.Well.{IsWell}
 use Rattle.ptk_words_invariant.proofs.Decisions.{arrival_coming}
-use Rattle.ptk_words_batches.specs.Idle.{IsIdle}
-use Rattle.ptk_words_batches.proofs.Arrivals.{none_before}
-use Rattle.ptk_words_batches.proofs.PlainDecisions.{no_arrivals}
+use Rattle.ptk_words_laws.specs.Idle.{IsIdle}
+use Rattle.ptk_words_laws.proofs.Arrivals.{none_before}
+use Rattle.ptk_words_laws.proofs.PlainDecisions.{no_arrivals}
 use Rattle.ptk_system.specs.World.{but_next}
 
 -- ---- the input still to come

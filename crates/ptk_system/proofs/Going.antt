@@ -8,7 +8,7 @@ use Rattle.ptk_words.specs.declared.faults.Status.{Status}
 use Rattle.ptk_words.specs.declared.sections.Limits.{Limits}
 use Rattle.ptk_words.specs.declared.threads.Thread.{Thread}
 use Rattle.ptk_words.specs.declared.threads.Wait.{Wait}
-use Rattle.ptk_words_windows.specs.Windows.{WindowPlan, own_ticks}
+use Rattle.ptk_words_model.specs.Windows.{WindowPlan, own_ticks}
 use Rattle.ptk_words_model.specs.State.{Part, State}
 use Rattle.ptk_words_model.specs.Priority.{awaited, thread_at}
 use Rattle.ptk_words.specs.Faults.{is_active}

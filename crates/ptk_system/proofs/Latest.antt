@@ -6,18 +6,18 @@ use Rattle.std.proofs.lemmas.Option.{MatchOption-at_some}
 use Rattle.ptk_words.specs.declared.faults.Status.{Status}
 use Rattle.ptk_words.specs.declared.sections.Arrival.{Arrival}
 use Rattle.ptk_words.specs.declared.sections.Limits.{Limits}
-use Rattle.ptk_words_windows.specs.Windows.{OwnTicks, WindowPlan, IsFirstOwn, IsOwn, IsOwnUntil, IsPlan, own_ticks}
-use Rattle.ptk_words_windows.proofs.NextLaws.{next_first, next_one}
-use Rattle.ptk_words_windows.proofs.OwnLaws.{end_of_window, window_whole, end_none}
+use Rattle.ptk_words_model.specs.Windows.{OwnTicks, WindowPlan, IsFirstOwn, IsOwn, IsOwnUntil, IsPlan, own_ticks}
+use Rattle.ptk_words_model.proofs.NextLaws.{next_first, next_one}
+use Rattle.ptk_words_model.proofs.OwnLaws.{end_of_window, window_whole, end_none}
 use Rattle.ptk_words_model.specs.State.{State}
 use Rattle.ptk_words_model.specs.Decision.{after_decision, spent_by_decision}
 use Rattle.ptk_words_model.specs.Run.{after_tick_until, alone, decided, is_at, next_from, start}
 use Rattle.ptk_words.specs.Faults.{is_active}
 use Rattle.ptk_words_invariant.specs.Well.{IsWell}
-use Rattle.ptk_words_batches.specs.Quiet.{after_ticks}
-use Rattle.ptk_words_batches.specs.Idle.{IsIdle, waiting_from}
-use Rattle.ptk_words_batches.proofs.IdleTicks.{idle_ticks}
-use Rattle.ptk_words_batches.proofs.TicksInARow.{first_by, join, next_own}
+use Rattle.ptk_words_laws.specs.Quiet.{after_ticks}
+use Rattle.ptk_words_laws.specs.Idle.{IsIdle, waiting_from}
+use Rattle.ptk_words_laws.proofs.IdleTicks.{idle_ticks}
+use Rattle.ptk_words_laws.proofs.TicksInARow.{first_by, join, next_own}
 use Rattle.ptk_system_machine.specs.Accounts.{duration_of}
 use Rattle.ptk_system_machine.proofs.States.{accounted_next}
 use Rattle.ptk_system_machine.proofs.Costs.{decision_costs}

@@ -8,7 +8,7 @@ use Rattle.std.proofs.lemmas.List.{length-map, get_or-map}
 use Rattle.ptk_words.specs.Ranges.{IsWithinLimits}
 use Rattle.ptk_words.specs.declared.sections.Arrival.{Arrival}
 use Rattle.ptk_words.specs.declared.sections.Limits.{Limits}
-use Rattle.ptk_words_windows.specs.Windows.{own_ticks}
+use Rattle.ptk_words_model.specs.Windows.{own_ticks}
 use Rattle.ptk_words_model.specs.State.{Account, Part, State}
 use Rattle.ptk_words_model.specs.Run.{empty_part, next_from, start, start_part, with_image, with_image_bytes}
 use Rattle.ptk_console.specs.ConsoleTable.{fresh_console, no_limits}

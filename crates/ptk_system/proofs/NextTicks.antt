@@ -1,8 +1,8 @@
 -- Two partitions with the same window ends have the same own ticks, so the same next ones.
 use Rattle.std.proofs.Common.{◌≡◌, ◌≤◌, ℕ, Option, Some, None, MatchOption, sym, subst}
-use Rattle.ptk_words_windows.specs.Windows.{WindowPlan, IsFirstOwn, IsOwn, IsOwnUntil, IsPlan, own_ticks}
-use Rattle.ptk_words_windows.proofs.OwnLaws.{end_of_window, own_from}
-use Rattle.ptk_words_windows.proofs.NextLaws.{next_first, next_none, next_one}
+use Rattle.ptk_words_model.specs.Windows.{WindowPlan, IsFirstOwn, IsOwn, IsOwnUntil, IsPlan, own_ticks}
+use Rattle.ptk_words_model.proofs.OwnLaws.{end_of_window, own_from}
+use Rattle.ptk_words_model.proofs.NextLaws.{next_first, next_none, next_one}
 
 -- a tick of the one is the other's
 own_too : (a b : WindowPlan) (p q tick : ℕ) → (own_ticks a p).end_at tick ≡ (own_ticks b q).end_at tick → IsOwn a p tick → IsOwn b q tick

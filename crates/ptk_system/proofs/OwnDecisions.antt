@@ -2,8 +2,8 @@
 use Rattle.std.proofs.Common.{◌≡◌, ◌≢◌, ℕ, ◌+◌, ◌-◌, ◌<◌, ◌≤◌, ◌==◌, Bool, true, false, Option, Some, None, length, if◌then◌else◌, refl, sym, ap, subst, ◌∙◌, eqb-true, add-one}
 use Rattle.std.proofs.lemmas.Option.{MatchOption-at_some}
 use Rattle.ptk_words.specs.declared.sections.Limits.{Limits}
-use Rattle.ptk_words_windows.specs.Windows.{OwnTicks, WindowPlan, IsOwn, IsOwnUntil, own_ticks}
-use Rattle.ptk_words_windows.proofs.OwnLaws.{end_of_window, own_apart, own_from}
+use Rattle.ptk_words_model.specs.Windows.{OwnTicks, WindowPlan, IsOwn, IsOwnUntil, own_ticks}
+use Rattle.ptk_words_model.proofs.OwnLaws.{end_of_window, own_apart, own_from}
 use Rattle.ptk_words_model.specs.State.{State}
 use Rattle.ptk_words_model.specs.Run.{after_tick, after_tick_until, decided, is_at}
 use Rattle.ptk_config.specs.Configuration.{IsConfiguration}

@@ -3,11 +3,11 @@ use Rattle.std.proofs.Common.{◌≡◌, ℕ, ◌+◌, ◌-◌, ◌<◌, ◌≤�
 use Rattle.ptk_words.specs.declared.TheConstants.{LAST_TICK}
 use Rattle.ptk_console.specs.ConsoleTable.{no_limits}
 use Rattle.ptk_words.specs.declared.sections.Limits.{Limits}
-use Rattle.ptk_words_windows.specs.Windows.{WindowPlan, IsPlan, own_ticks}
-use Rattle.ptk_words_windows.proofs.FaultLaws.{accepted}
+use Rattle.ptk_words_model.specs.Windows.{WindowPlan, IsPlan, own_ticks}
+use Rattle.ptk_words_model.proofs.FaultLaws.{accepted}
 use Rattle.ptk_words_model.specs.State.{State}
-use Rattle.ptk_words_batches.specs.Quiet.{after_ticks}
-use Rattle.ptk_words_batches.proofs.TicksInARow.{alone_on}
+use Rattle.ptk_words_laws.specs.Quiet.{after_ticks}
+use Rattle.ptk_words_laws.proofs.TicksInARow.{alone_on}
 use Rattle.ptk_system_machine.specs.Kept.{Kept, limits_at, part_at}
 use Rattle.ptk_config.specs.Configuration.{Configuration, IsConfiguration}
 use Rattle.ptk_image.specs.NamedFiles.{NamedFile}

@@ -4,16 +4,16 @@ use Rattle.std.specs.Prelude.{IsSome}
 use Rattle.std.proofs.lemmas.Bool.{cases_lt}
 use Rattle.ptk_words.specs.Ranges.{IsWithinLimits}
 use Rattle.ptk_words.specs.declared.sections.Limits.{Limits}
-use Rattle.ptk_words_windows.specs.Windows.{OwnTicks, WindowPlan, IsPlan, own_ticks}
+use Rattle.ptk_words_model.specs.Windows.{OwnTicks, WindowPlan, IsPlan, own_ticks}
 use Rattle.ptk_words_model.specs.State.{Part, State}
 use Rattle.ptk_words_model.specs.Decision.{Decision}
 use Rattle.ptk_words_model.specs.Run.{accounted, after_tick_until, decided, is_at, next_from}
 use Rattle.ptk_words.specs.Faults.{is_active}
 use Rattle.ptk_words_invariant.specs.Well.{IsWell}
 use Rattle.ptk_words_invariant.proofs.Runs.{sound_alone}
-use Rattle.ptk_words_batches.specs.Quiet.{after_ticks}
-use Rattle.ptk_words_batches.specs.Idle.{IsIdle, waiting_from}
-use Rattle.ptk_words_batches.proofs.IdleTicks.{idle_decided}
+use Rattle.ptk_words_laws.specs.Quiet.{after_ticks}
+use Rattle.ptk_words_laws.specs.Idle.{IsIdle, waiting_from}
+use Rattle.ptk_words_laws.proofs.IdleTicks.{idle_decided}
 use Rattle.ptk_config.specs.Configuration.{IsConfiguration}
 use Rattle.ptk_system_machine.specs.Accounts.{IsBehind}
 use Rattle.ptk_system_machine.proofs.Ticks.{in_window, not_due, still_on}

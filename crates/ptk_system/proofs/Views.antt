@@ -5,8 +5,8 @@ use Rattle.std.proofs.lemmas.Bool.{cases_lt, cond_both, ltb-false}
 use Rattle.std.proofs.lemmas.List.{get_or_past}
 use Rattle.ptk_words.specs.declared.sections.Arrival.{Arrival}
 use Rattle.ptk_words.specs.declared.sections.Limits.{Limits}
-use Rattle.ptk_words_windows.specs.Windows.{OwnTicks, own_ticks}
-use Rattle.ptk_words_windows.proofs.OwnLaws.{window_whole}
+use Rattle.ptk_words_model.specs.Windows.{OwnTicks, own_ticks}
+use Rattle.ptk_words_model.proofs.OwnLaws.{window_whole}
 use Rattle.ptk_words_model.specs.declared.Runner.{Runner}
 use Rattle.ptk_words_model.specs.declared.Spent.TheVariants.{Step}
 use Rattle.ptk_words_model.specs.State.{Part}

@@ -1,7 +1,7 @@
 -- What holds of two systems, and of one processor.
 use Rattle.std.specs.Prelude.{◌≡◌, ◌≢◌, ℕ, ◌+◌, ◌-◌, ◌<◌, ◌≤◌, Some, None, length}
 use Rattle.ptk_words.specs.declared.sections.Limits.{Limits}
-use Rattle.ptk_words_windows.specs.Windows.{OwnTicks, WindowPlan, IsPlan, own_ticks}
+use Rattle.ptk_words_model.specs.Windows.{OwnTicks, WindowPlan, IsPlan, own_ticks}
 use Rattle.ptk_words_model.specs.declared.Spent.TheVariants.{Step}
 use Rattle.ptk_words_model.specs.State.{Part, State}
 use Rattle.ptk_words_model.specs.Decision.{spent_by_decision}

@@ -1,7 +1,7 @@
 -- A system as its callers see it, with the state of each partition, and what each is alone.
 use Rattle.std.specs.Prelude.{◌≡◌, ℕ, zero, suc, ◌<◌, ◌≤◌, List, [], ◌∷◌, ◌++◌, None, length, slice_index_or}
 use Rattle.ptk_words.specs.declared.TheConstants.{LAST_TICK}
-use Rattle.ptk_words_windows.specs.Windows.{own_ticks}
+use Rattle.ptk_words_model.specs.Windows.{own_ticks}
 use Rattle.ptk_words_model.specs.State.{State}
 use Rattle.ptk_words_model.specs.Run.{alone, empty_part}
 use Rattle.ptk_console.specs.ConsoleTable.{no_limits}

@@ -3,9 +3,9 @@
 
 ghost use Rattle.std.specs.Prelude.{◌≡◌, ◌<◌, ◌≤◌, ℕ, None, Some, length, option_map};
 ghost use Rattle.ptk_words_model.specs.CancellationCalls.{cancellation_of};
-ghost use Rattle.ptk_mutex_priorities.specs.Slots.{state_of as mutex_state};
+ghost use Rattle.ptk_roster.specs.Slots.{state_of as mutex_state};
 ghost use Rattle.ptk_words.specs.declared.threads.Thread.{Thread};
-ghost use Rattle.ptk_words_windows.specs.Windows.{own_ticks};
+ghost use Rattle.ptk_words_model.specs.Windows.{own_ticks};
 ghost use Rattle.ptk_words_model.specs.State.{Mutex};
 ghost use Rattle.ptk_words_model.specs.Priority.{effective_priority, thread_at};
 ghost use Rattle.ptk_words_model.specs.Mutex.{mutex_at};
@@ -16,7 +16,7 @@ ghost use Rattle.ptk_system.specs.Going.{AllStandStill, IsLatest, IsLatestOfAll,
 ghost use Rattle.ptk_system.specs.World.{state_of};
 
 use crate::system::System;
-use ptk_mutex_priorities::MutexState;
+use ptk_roster::MutexState;
 use ptk_system_machine::idle_from;
 use ptk_words::{Entry, LAST_TICK, MutexNo, Owner, PartId, Priority, Thread, ThreadNo, Tick, Wait};
 

@@ -2,8 +2,8 @@
 
 ghost use Rattle.std.specs.Prelude.{◌≡◌, ◌≢◌, ◌+◌, ◌<◌, ◌≤◌, length, max};
 ghost use Rattle.ptk_words.specs.declared.TheConstants.{LAST_TICK};
-ghost use Rattle.ptk_words_windows.specs.OwnTicksLaws.{OwnTicksAreApart};
-ghost use Rattle.ptk_words_windows.specs.Windows.{own_ticks};
+ghost use Rattle.ptk_words_model.specs.OwnTicksLaws.{OwnTicksAreApart};
+ghost use Rattle.ptk_words_model.specs.Windows.{own_ticks};
 ghost use Rattle.ptk_system.specs.Laws.{IsByDecision, IsIdleBut, SameView, StepStaysInWindow, StepsAreApart};
 ghost use Rattle.ptk_system.specs.Shown.{part_report};
 ghost use Rattle.ptk_system.specs.World.{at_tick, section_at, state_of};
@@ -37,7 +37,7 @@ pub fn idle_world(a: &System, b: &System, p: PartId, q: PartId)
     two_worlds(a, b, p, q);
 }
 
-/// In a window plan without a fault (`accepted_is_plan` of `ptk_words_windows`) all ticks of a decision's step lie in
+/// In a window plan without a fault (`accepted_is_plan` of `ptk_words_model`) all ticks of a decision's step lie in
 /// one window of its partition, and no tick is two partitions': so no two steps of a system share a tick.
 pub fn one_processor()
     ensures within { StepStaysInWindow }

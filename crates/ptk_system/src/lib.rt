@@ -31,6 +31,6 @@ pub use laws::{
     decisions_are_own, idle_world, one_processor, steps_are_apart, stop_on_the_way, two_worlds,
 };
 pub use ptk_image::{Files, image_fault_words};
-pub use ptk_mutex_priorities::MutexState;
+pub use ptk_roster::MutexState;
 pub use status::{PartStatus, cause_word};
 pub use system::System;

@@ -8,7 +8,7 @@ ghost use Rattle.ptk_system.specs.Shown.{part_lines, part_report, report_of, sho
 
 use crate::status::PartStatus;
 use crate::system::System;
-use ptk_text::Decimal;
+use ptk_trace::Decimal;
 use ptk_words::PartId;
 use std::io;
 use std::io::Write;

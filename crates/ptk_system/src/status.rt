@@ -5,7 +5,7 @@ ghost use Rattle.ptk_words_model.specs.Text.{cause_text};
 ghost use Rattle.ptk_system.specs.Told.{is_halted, told_status};
 ghost use Rattle.ptk_system.specs.Shown.{shown_status};
 
-use ptk_text::{Decimal, Word};
+use ptk_trace::{Decimal, Word};
 use ptk_words::{Cause, FaultKind, ImageFault, Status};
 use std::fmt;
 

@@ -4,14 +4,14 @@ use Rattle.std.specs.Prelude.{if◌then◌else◌, IsSome}
 use Rattle.std.proofs.lemmas.Bool.{false≢true}
 use Rattle.ptk_words.specs.declared.faults.Status.{Status}
 use Rattle.ptk_words.specs.declared.sections.Limits.{Limits}
-use Rattle.ptk_words_windows.specs.Windows.{OwnTicks}
+use Rattle.ptk_words_model.specs.Windows.{OwnTicks}
 use Rattle.ptk_words_model.specs.declared.Spent.{Spent}
 use Rattle.ptk_words_model.specs.declared.Spent.TheVariants.{Step, Idle, Lost}
 use Rattle.ptk_words_model.specs.State.{Part, Account, State}
 use Rattle.ptk_words_model.specs.Decision.{after_decision, spent_by_decision}
 use Rattle.ptk_words_model.specs.Run.{next_from, accounted, decided, is_at, after_tick_until}
 use Rattle.ptk_words.specs.Faults.{is_active}
-use Rattle.ptk_words_batches.specs.Quiet.{after_ticks}
+use Rattle.ptk_words_laws.specs.Quiet.{after_ticks}
 use Rattle.ptk_system_machine.specs.Accounts.{IsBehind}
 
 -- a decision to come is one of a partition that is not halted

@@ -3,11 +3,11 @@ use Rattle.std.proofs.Common.{◌≡◌, ◌≢◌, ℕ, ◌+◌, ◌-◌, ◌<�
 use Rattle.std.specs.Prelude.{IfSome, MatchOption}
 use Rattle.std.proofs.lemmas.Bool.{false≢true, cases_lt}
 use Rattle.ptk_words.specs.declared.sections.Limits.{Limits}
-use Rattle.ptk_words_windows.specs.Windows.{WindowPlan, OwnTicks, IsPlan, own_ticks}
+use Rattle.ptk_words_model.specs.Windows.{WindowPlan, OwnTicks, IsPlan, own_ticks}
 use Rattle.ptk_words_model.specs.State.{State}
-use Rattle.ptk_words_batches.specs.Quiet.{after_ticks}
-use Rattle.ptk_words_windows.proofs.OwnLaws.{window_whole}
-use Rattle.ptk_words_batches.proofs.TicksInARow.{join, window_own}
+use Rattle.ptk_words_laws.specs.Quiet.{after_ticks}
+use Rattle.ptk_words_model.proofs.OwnLaws.{window_whole}
+use Rattle.ptk_words_laws.proofs.TicksInARow.{join, window_own}
 use Rattle.ptk_window.specs.declared.near.Turn.{Turn}
 use Rattle.ptk_window.specs.Turn.{IsTurn}
 use Rattle.ptk_window.specs.Walks.{Way}

@@ -5,15 +5,15 @@ use Rattle.std.proofs.lemmas.Option.{MatchOption-at_some}
 use Rattle.ptk_words.specs.declared.faults.Status.{Status}
 use Rattle.ptk_words.specs.declared.sections.Entry.{Entry}
 use Rattle.ptk_words.specs.declared.sections.Limits.{Limits}
-use Rattle.ptk_words_windows.specs.Windows.{OwnTicks, WindowPlan, IsFirstOwn, IsOwn, IsPlan, own_ticks}
-use Rattle.ptk_words_windows.proofs.NextLaws.{next_first}
+use Rattle.ptk_words_model.specs.Windows.{OwnTicks, WindowPlan, IsFirstOwn, IsOwn, IsPlan, own_ticks}
+use Rattle.ptk_words_model.proofs.NextLaws.{next_first}
 use Rattle.ptk_words_model.specs.State.{Part, State}
 use Rattle.ptk_words_model.specs.Decision.{Decision, after_decision}
 use Rattle.ptk_words_model.specs.Run.{accounted, decided, last_of, next_from}
 use Rattle.ptk_words.specs.Faults.{is_active}
 use Rattle.ptk_words_model.proofs.Last.{last_more}
-use Rattle.ptk_words_batches.specs.Quiet.{after_ticks}
-use Rattle.ptk_words_batches.proofs.TicksInARow.{join, next_own}
+use Rattle.ptk_words_laws.specs.Quiet.{after_ticks}
+use Rattle.ptk_words_laws.proofs.TicksInARow.{join, next_own}
 use Rattle.ptk_kernel.specs.Decisions.{AreQuietSteps, IsQuietStep, Progress, begun, decided_on, decisions, entries_of}
 use Rattle.ptk_kernel.proofs.Decisions.{step_ticks, steps_later}
 use Rattle.ptk_system_machine.specs.Steady.{AreSteady, states_from}

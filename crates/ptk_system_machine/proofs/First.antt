@@ -4,7 +4,7 @@ use Rattle.std.specs.Prelude.{min, MatchOption}
 use Rattle.std.proofs.lemmas.Bool.{cases_lt}
 use Rattle.ptk_words.specs.declared.sections.Limits.{Limits}
 use Rattle.ptk_words.proofs.Options.{one_more}
-use Rattle.ptk_words_windows.specs.Windows.{WindowPlan, OwnTicks, IsPlan, own_ticks}
+use Rattle.ptk_words_model.specs.Windows.{WindowPlan, OwnTicks, IsPlan, own_ticks}
 use Rattle.ptk_words_model.specs.State.{State}
 use Rattle.ptk_window.specs.declared.near.Turn.{Turn}
 use Rattle.ptk_kernel.specs.Kept.{limits_at}

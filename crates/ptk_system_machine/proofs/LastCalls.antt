@@ -4,9 +4,9 @@ use Rattle.std.proofs.lemmas.Bool.{cases_lt, false≢true}
 use Rattle.ptk_words.specs.declared.TheConstants.{ECALL}
 use Rattle.ptk_words.specs.declared.sections.Entry.{Entry}
 use Rattle.ptk_words.specs.declared.sections.Limits.{Limits}
-use Rattle.ptk_words_windows.specs.Windows.{OwnTicks, WindowPlan, IsPlan, own_ticks}
+use Rattle.ptk_words_model.specs.Windows.{OwnTicks, WindowPlan, IsPlan, own_ticks}
 use Rattle.ptk_words_model.specs.State.{Part, State}
-use Rattle.ptk_words_batches.proofs.TicksInARow.{next_own}
+use Rattle.ptk_words_laws.proofs.TicksInARow.{next_own}
 use Rattle.ptk_window.specs.declared.near.Turn.{Turn}
 use Rattle.ptk_trace.specs.KeptSteps.{KeptSteps}
 use Rattle.ptk_kernel.specs.Decisions.{AreQuietSteps, Progress, begun, decided_on, decisions}

@@ -3,15 +3,15 @@ use Rattle.std.proofs.Common.{◌≡◌, ℕ, ◌<◌, ◌≤◌, List, Some, le
 use Rattle.std.proofs.Math.ListN.{set}
 use Rattle.std.proofs.lemmas.List.{set-get_or}
 use Rattle.ptk_words.specs.declared.sections.Limits.{Limits}
-use Rattle.ptk_words_windows.specs.Windows.{OwnTicks}
+use Rattle.ptk_words_model.specs.Windows.{OwnTicks}
 use Rattle.ptk_words_model.specs.declared.Spent.{Spent}
 use Rattle.ptk_words_model.specs.State.{Part, State}
 use Rattle.ptk_words_model.specs.Decision.{after_turn, after_decision, ready_at, runner_of, spent_by_decision, spent_in_turn}
 use Rattle.ptk_words.specs.Faults.{is_active}
-use Rattle.ptk_words_batches.specs.Quiet.{after_ticks}
-use Rattle.ptk_words_batches.specs.Prepared.{prepared}
-use Rattle.ptk_words_batches.proofs.PlainDecisions.{quiet_ready}
-use Rattle.ptk_words_batches.proofs.PreparedTicks.{prepared_on, ready_status}
+use Rattle.ptk_words_laws.specs.Quiet.{after_ticks}
+use Rattle.ptk_words_laws.specs.Prepared.{prepared}
+use Rattle.ptk_words_laws.proofs.PlainDecisions.{quiet_ready}
+use Rattle.ptk_words_laws.proofs.PreparedTicks.{prepared_on, ready_status}
 use Rattle.ptk_kernel.specs.Kept.{Kept, AreParts, limits_at, part_at, put_part}
 use Rattle.ptk_kernel.specs.Rows.{IsStillTo}
 use Rattle.ptk_kernel.proofs.Parted.{part_at-put, parts_put, put_part-put}

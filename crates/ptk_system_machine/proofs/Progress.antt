@@ -3,8 +3,8 @@ use Rattle.std.proofs.Common.{◌≡◌, ◌≢◌, ℕ, zero, suc, ◌+◌, ◌
 use Rattle.std.specs.Prelude.{unwrap_or}
 use Rattle.std.proofs.lemmas.Bool.{cases_lt, false≢true}
 use Rattle.std.proofs.lemmas.Option.{MatchOption-at_some}
-use Rattle.ptk_words_windows.specs.Windows.{WindowPlan, OwnTicks, IsOwn, IsOwnUntil, IsPlan, own_ticks}
-use Rattle.ptk_words_windows.proofs.OwnLaws.{end_of_window, own_apart, own_from}
+use Rattle.ptk_words_model.specs.Windows.{WindowPlan, OwnTicks, IsOwn, IsOwnUntil, IsPlan, own_ticks}
+use Rattle.ptk_words_model.proofs.OwnLaws.{end_of_window, own_apart, own_from}
 use Rattle.ptk_words_model.specs.Priority.{thread_at}
 use Rattle.ptk_window.specs.declared.near.Turn.{Turn}
 use Rattle.ptk_kernel.specs.Kept.{Kept, limits_at, part_at}

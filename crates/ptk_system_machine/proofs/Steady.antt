@@ -2,10 +2,10 @@
 use Rattle.std.proofs.Common.{◌≡◌, ◌≢◌, ℕ, ◌+◌, ◌-◌, ◌<◌, ◌≤◌, Bool, true, false, ◌==◌, length, Some, ◌⊎◌, inl, inr, refl, sym, ap, subst, ◌∙◌, eqb-true, eq-eqb, arith}
 use Rattle.std.proofs.lemmas.Bool.{cases_lt, false≢true}
 use Rattle.ptk_words.specs.declared.sections.Limits.{Limits}
-use Rattle.ptk_words_windows.specs.Windows.{OwnTicks, WindowPlan, own_ticks}
+use Rattle.ptk_words_model.specs.Windows.{OwnTicks, WindowPlan, own_ticks}
 use Rattle.ptk_words_model.specs.State.{Part, State}
-use Rattle.ptk_words_batches.specs.Quiet.{after_ticks}
-use Rattle.ptk_words_batches.proofs.TicksInARow.{join}
+use Rattle.ptk_words_laws.specs.Quiet.{after_ticks}
+use Rattle.ptk_words_laws.proofs.TicksInARow.{join}
 use Rattle.ptk_kernel.specs.Kept.{limits_at, part_at}
 use Rattle.ptk_kernel.specs.Steady.{IsOfRunning, IsSteady}
 use Rattle.ptk_kernel.proofs.Steady.{steady_on, steady_same}

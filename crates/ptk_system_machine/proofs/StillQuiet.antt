@@ -1,6 +1,6 @@
 -- How quiet a partition is at its next turn in a row.
 use Rattle.std.proofs.Common.{◌≡◌, ℕ, ◌≤◌, sym, subst, arith}
-use Rattle.ptk_words_batches.proofs.Sooner.{quiet_sooner}
+use Rattle.ptk_words_laws.proofs.Sooner.{quiet_sooner}
 use Rattle.ptk_kernel.specs.Kept.{Kept, limits_at, part_at}
 use Rattle.ptk_kernel.specs.Rows.{IsStillTo}
 

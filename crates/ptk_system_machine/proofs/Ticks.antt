@@ -3,18 +3,18 @@ use Rattle.std.proofs.Common.{◌≡◌, ℕ, zero, suc, ◌+◌, ◌-◌, ◌<�
 use Rattle.std.proofs.Math.ListN.{set}
 use Rattle.std.proofs.lemmas.List.{set-set, get_or-set_same, length-set}
 use Rattle.ptk_words.specs.declared.sections.Limits.{Limits}
-use Rattle.ptk_words_windows.specs.Windows.{WindowPlan, OwnTicks, IsPlan, own_ticks}
-use Rattle.ptk_words_windows.proofs.OwnLaws.{window_whole}
+use Rattle.ptk_words_model.specs.Windows.{WindowPlan, OwnTicks, IsPlan, own_ticks}
+use Rattle.ptk_words_model.proofs.OwnLaws.{window_whole}
 use Rattle.std.proofs.lemmas.Bool.{cases_lt}
 use Rattle.ptk_words_model.specs.declared.Spent.{Spent}
 use Rattle.ptk_words_model.specs.declared.Spent.TheVariants.{Idle}
 use Rattle.ptk_words_model.specs.State.{State}
 use Rattle.ptk_words_model.specs.Decision.{after_decision, spent_by_decision}
 use Rattle.ptk_words_model.specs.Run.{after_tick, after_tick_until, decided, is_at, next_from}
-use Rattle.ptk_words_batches.specs.Quiet.{after_ticks}
-use Rattle.ptk_words_batches.specs.Idle.{IsIdle, waiting_from}
-use Rattle.ptk_words_batches.proofs.IdleTicks.{idle_ticks}
-use Rattle.ptk_words_batches.proofs.TicksInARow.{join, window_own, idle_tick}
+use Rattle.ptk_words_laws.specs.Quiet.{after_ticks}
+use Rattle.ptk_words_laws.specs.Idle.{IsIdle, waiting_from}
+use Rattle.ptk_words_laws.proofs.IdleTicks.{idle_ticks}
+use Rattle.ptk_words_laws.proofs.TicksInARow.{join, window_own, idle_tick}
 use Rattle.ptk_kernel.specs.Kept.{Kept, limits_at, part_at, put_part}
 use Rattle.ptk_kernel.proofs.Parted.{put_part-put}
 use Rattle.ptk_system_machine.specs.Accounts.{KeptAccount, IsBehind, duration_of}

@@ -3,9 +3,9 @@ use Rattle.std.specs.Prelude.{◌≡◌, ℕ, ◌+◌, ◌-◌, ◌<◌, ◌≤�
 use Rattle.ptk_words.specs.declared.TheConstants.{ECALL}
 use Rattle.ptk_words.specs.declared.sections.Entry.{Entry}
 use Rattle.ptk_words.specs.declared.sections.Limits.{Limits}
-use Rattle.ptk_words_windows.specs.Windows.{OwnTicks}
+use Rattle.ptk_words_model.specs.Windows.{OwnTicks}
 use Rattle.ptk_words_model.specs.State.{Part, State}
-use Rattle.ptk_words_batches.specs.Quiet.{after_ticks}
+use Rattle.ptk_words_laws.specs.Quiet.{after_ticks}
 pub use Rattle.ptk_kernel.specs.Steady.{IsOfRunning, IsSteady, at_rest}
 
 -- from a tick on and up to another the threads are and wait as in this state, no tick is lost, and each step is the running thread's, which goes on (own)

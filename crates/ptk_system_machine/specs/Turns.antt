@@ -2,14 +2,14 @@
 use Rattle.std.specs.Prelude.{◌≡◌, ◌≢◌, ℕ, ◌+◌, ◌-◌, ◌<◌, ◌≤◌, true, Option, Some, IfSome}
 use Rattle.ptk_words.specs.declared.sections.Limits.{Limits}
 use Rattle.ptk_words.specs.declared.threads.Thread.{Thread}
-use Rattle.ptk_words_instructions.specs.PlainSteps.{is_plain}
-use Rattle.ptk_words_windows.specs.Windows.{WindowPlan, OwnTicks, own_ticks}
+use Rattle.ptk_words_model.specs.PlainSteps.{is_plain}
+use Rattle.ptk_words_model.specs.Windows.{WindowPlan, OwnTicks, own_ticks}
 use Rattle.ptk_words_model.specs.declared.Spent.{Spent}
 use Rattle.ptk_words_model.specs.declared.Spent.TheVariants.{Idle}
 use Rattle.ptk_words_model.specs.State.{Part, State}
 use Rattle.ptk_words_model.specs.Decision.{after_decision, spent_by_decision}
-use Rattle.ptk_words_batches.specs.Quiet.{AreOwn, IsQuiet, after_ticks, core_of}
-use Rattle.ptk_words_batches.specs.Idle.{IsIdle}
+use Rattle.ptk_words_laws.specs.Quiet.{AreOwn, IsQuiet, after_ticks, core_of}
+use Rattle.ptk_words_laws.specs.Idle.{IsIdle}
 use Rattle.ptk_window.specs.Walks.{Way}
 use Rattle.ptk_window.specs.declared.near.Turn.{Turn}
 use Rattle.ptk_kernel.specs.Kept.{limits_at}

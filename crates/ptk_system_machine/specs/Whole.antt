@@ -1,9 +1,9 @@
 -- The states of all partitions at once.
 use Rattle.std.specs.Prelude.{◌≡◌, ℕ, ◌<◌, ◌≤◌, List, None, All, length, slice_index_or, slice_set}
-use Rattle.ptk_words_windows.specs.Windows.{WindowPlan, OwnTicks, own_ticks}
+use Rattle.ptk_words_model.specs.Windows.{WindowPlan, OwnTicks, own_ticks}
 use Rattle.ptk_words_model.specs.State.{State}
 use Rattle.ptk_words_model.specs.Run.{next_from}
-use Rattle.ptk_words_batches.specs.Quiet.{after_ticks}
+use Rattle.ptk_words_laws.specs.Quiet.{after_ticks}
 use Rattle.ptk_kernel.specs.Kept.{Kept, AreParts, limits_at, part_at, put_part}
 use Rattle.ptk_system_machine.specs.Accounts.{KeptAccount, first_account}
 

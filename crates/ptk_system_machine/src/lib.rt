@@ -12,7 +12,7 @@
 //!   goes nothing happens to its partition (`last`).
 //! - Each turn is prepared once: preparing a quiet partition changes nothing, and ticks that begin with a decision lead
 //!   from the prepared state to where they lead from the state before (`quiet_is_prepared`, `prepared_goes_on` of
-//!   `ptk_words_batches`).
+//!   `ptk_words_laws`).
 //!
 //! Below are the kernel and the window plan; above is the system. Costly to prove are that a decision and the ticks up
 //! to the next one are as many ticks as the definition says (`proofs/Ticks`), that steps in a row are counted as the

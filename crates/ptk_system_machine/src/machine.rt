@@ -1,7 +1,7 @@
 //! All partitions.
 
 ghost use Rattle.std.specs.Prelude.{◌≡◌, ◌<◌, ◌≤◌, ◌^◌, ℕ, IfOk, length, slice_index_or};
-ghost use Rattle.ptk_words_windows.specs.Windows.{own_ticks};
+ghost use Rattle.ptk_words_model.specs.Windows.{own_ticks};
 ghost use Rattle.ptk_words_model.specs.Run.{next_from};
 ghost use Rattle.ptk_words.specs.Faults.{is_active};
 ghost use Rattle.ptk_kernel.specs.Kept.{AreParts, limits_at};

@@ -3,13 +3,13 @@
 
 ghost use Rattle.std.specs.Prelude.{◌≡◌, ◌<◌, ◌≤◌, ◌^◌, ◌+◌, ◌-◌, ℕ, true, None, Some, IfSome, IsSome, MatchOption, length, min};
 ghost use Rattle.ptk_words.specs.declared.TheConstants.{LAST_TICK};
-ghost use Rattle.ptk_words_windows.specs.Windows.{own_ticks};
+ghost use Rattle.ptk_words_model.specs.Windows.{own_ticks};
 ghost use Rattle.ptk_words_model.specs.Decision.{ready_at};
 ghost use Rattle.ptk_words_model.specs.Run.{next_from};
 ghost use Rattle.ptk_words_model.specs.State.{State};
-ghost use Rattle.ptk_words_batches.specs.Quiet.{after_ticks};
-ghost use Rattle.ptk_words_batches.specs.Prepared.{prepared};
-ghost use Rattle.ptk_words_batches.specs.Idle.{IsIdle};
+ghost use Rattle.ptk_words_laws.specs.Quiet.{after_ticks};
+ghost use Rattle.ptk_words_laws.specs.Prepared.{prepared};
+ghost use Rattle.ptk_words_laws.specs.Idle.{IsIdle};
 ghost use Rattle.ptk_kernel.specs.Kept.{limits_at, part_at, put_part};
 ghost use Rattle.ptk_kernel.specs.Rows.{IsCallNext, IsChosen, IsStill, IsStillTo};
 ghost use Rattle.ptk_kernel.specs.Decisions.{longest_step};

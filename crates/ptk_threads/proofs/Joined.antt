@@ -6,13 +6,13 @@ use Rattle.std.proofs.lemmas.List.{length-map, get_or_append_left, get_or-append
 use Rattle.std.proofs.lemmas.Simd.{map-map}
 use Rattle.ptk_words.specs.Pools.{is_in}
 use Rattle.ptk_words.proofs.Lists.{in_here, in_head}
-use Rattle.ptk_words_parted.specs.Parts.{part_of, joined}
-use Rattle.ptk_threads_slots.specs.declared.link.SlotLink.{SlotLink}
-use Rattle.ptk_threads_slots.specs.declared.link.Link.{Link}
-use Rattle.ptk_threads_slots.specs.declared.link.Ends.{Ends}
-use Rattle.ptk_threads_slots.specs.declared.slot.Slot.{Slot}
-use Rattle.ptk_threads_slots.specs.Links.{place_of, link_in, links_of, shared_links, threads_of, free_slot, no_link, own_link, shared_link, slot_at, AreLinksFrom, mark_of, first_or, IsAlong, queue_at, AreQueues}
-use Rattle.ptk_threads_slots.proofs.Along.{in_later, along_marked, marked_within}
+use Rattle.ptk_words.specs.Parts.{part_of, joined}
+use Rattle.ptk_threads.specs.declared.link.SlotLink.{SlotLink}
+use Rattle.ptk_threads.specs.declared.link.Link.{Link}
+use Rattle.ptk_threads.specs.declared.link.Ends.{Ends}
+use Rattle.ptk_threads.specs.declared.slot.Slot.{Slot}
+use Rattle.ptk_threads.specs.Links.{place_of, link_in, links_of, shared_links, threads_of, free_slot, no_link, own_link, shared_link, slot_at, AreLinksFrom, mark_of, first_or, IsAlong, queue_at, AreQueues}
+use Rattle.ptk_threads.proofs.Along.{in_later, along_marked, marked_within}
 use Rattle.ptk_clock.specs.ByThread.{first_slot}
 use Rattle.ptk_threads.specs.Shared.{link_at, IsAlongLinks}
 

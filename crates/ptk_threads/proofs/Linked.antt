@@ -7,19 +7,19 @@ use Rattle.std.proofs.lemmas.List.{length-replicate, length-map, map-set, map-ap
 use Rattle.ptk_words.specs.Pools.{is_in, without, pool_get, pool_changed}
 use Rattle.ptk_words.specs.declared.threads.Thread.{Thread}
 use Rattle.ptk_words.proofs.Lists.{without_own}
-use Rattle.ptk_words_parted.specs.Parts.{part_of, joined, filled}
-use Rattle.ptk_words_parted.specs.Cuts.{lent}
-use Rattle.ptk_words_parted.proofs.Cuts.{lent-same}
-use Rattle.ptk_threads_slots.specs.declared.link.Ends.{Ends}
-use Rattle.ptk_threads_slots.specs.declared.link.Link.{Link}
-use Rattle.ptk_threads_slots.specs.declared.link.SlotLink.{SlotLink}
-use Rattle.ptk_threads_slots.specs.declared.link.QueueName.{QueueName}
-use Rattle.ptk_threads_slots.specs.declared.slot.Slot.{Slot}
-use Rattle.ptk_threads_slots.specs.Links.{place_of, link_in, links_of, shared_links, shared_link, AreLinksFrom, threads_of, free_slot, no_link, no_ends, mark_of, queue_from, queue_at, queues, AreQueues}
-use Rattle.ptk_threads_slots.specs.Changes.{put_before, with_inserted, with_taken}
-use Rattle.ptk_threads_slots.proofs.Along.{along_marked, le_or_gt, not_true}
-use Rattle.ptk_threads_slots.proofs.Lists.{list_at, without_none, put_none, unqueued_mark}
-use Rattle.ptk_threads_slots.proofs.Empty.{empty_queues, empty_lists}
+use Rattle.ptk_words.specs.Parts.{part_of, joined, filled}
+use Rattle.ptk_words.specs.Cuts.{lent}
+use Rattle.ptk_words.proofs.Cuts.{lent-same}
+use Rattle.ptk_threads.specs.declared.link.Ends.{Ends}
+use Rattle.ptk_threads.specs.declared.link.Link.{Link}
+use Rattle.ptk_threads.specs.declared.link.SlotLink.{SlotLink}
+use Rattle.ptk_threads.specs.declared.link.QueueName.{QueueName}
+use Rattle.ptk_threads.specs.declared.slot.Slot.{Slot}
+use Rattle.ptk_threads.specs.Links.{place_of, link_in, links_of, shared_links, shared_link, AreLinksFrom, threads_of, free_slot, no_link, no_ends, mark_of, queue_from, queue_at, queues, AreQueues}
+use Rattle.ptk_threads.specs.LinkChanges.{put_before, with_inserted, with_taken}
+use Rattle.ptk_threads.proofs.Along.{along_marked, le_or_gt, not_true}
+use Rattle.ptk_threads.proofs.Lists.{list_at, without_none, put_none, unqueued_mark}
+use Rattle.ptk_threads.proofs.Empty.{empty_queues, empty_lists}
 use Rattle.ptk_threads.specs.Queues.{LinkedThreads, queues_by, free_parts, AreLinked, AreListed, IsUnqueued, with_before, with_none, with_out}
 use Rattle.ptk_threads.specs.Table.{ThreadTable, with_queues, with_changed}
 use Rattle.ptk_clock.specs.ByThread.{first_slot}

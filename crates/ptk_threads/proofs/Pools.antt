@@ -5,7 +5,7 @@ use Rattle.std.specs.Option.{is_some, option_copied, option_flatten}
 use Rattle.std.proofs.Math.ListN.{set}
 use Rattle.std.proofs.lemmas.List.{set-get_or, get_or-set_same, get_or-set_other}
 use Rattle.ptk_words.specs.Pools.{pool_get, pool_changed}
-use Rattle.ptk_words_parted.specs.Parts.{part_of}
+use Rattle.ptk_words.specs.Parts.{part_of}
 
 -- ---- a change of a free number
 

@@ -10,12 +10,12 @@ use Rattle.std.proofs.lemmas.List.Elements.{All-head, All-tail}
 use Rattle.ptk_words.specs.Pools.{pool_get, pool_set, pool_changed}
 use Rattle.ptk_words.specs.declared.threads.Thread.{Thread}
 use Rattle.ptk_words.proofs.Pools.{length-pool_set, length-changed, entry_past, pool_set_below}
-use Rattle.ptk_words_parted.specs.Parts.{part_of, filled}
-use Rattle.ptk_words_parted.specs.Cuts.{lent}
-use Rattle.ptk_words_parted.proofs.Cuts.{lent-same, set_part-same}
-use Rattle.ptk_words_parted.proofs.Entries.{length_part-set}
-use Rattle.ptk_threads_slots.specs.declared.slot.Slot.{Slot}
-use Rattle.ptk_threads_slots.specs.Links.{shared_links, threads_of, free_slot}
+use Rattle.ptk_words.specs.Parts.{part_of, filled}
+use Rattle.ptk_words.specs.Cuts.{lent}
+use Rattle.ptk_words.proofs.Cuts.{lent-same, set_part-same}
+use Rattle.ptk_words.proofs.Entries.{length_part-set}
+use Rattle.ptk_threads.specs.declared.slot.Slot.{Slot}
+use Rattle.ptk_threads.specs.Links.{shared_links, threads_of, free_slot}
 use Rattle.ptk_threads.specs.Table.{IsTable, stored_of, replaced_by}
 
 -- ---- a number

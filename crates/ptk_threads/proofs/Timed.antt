@@ -8,8 +8,8 @@ use Rattle.ptk_words.specs.Pools.{pool_get, pool_set, pool_changed}
 use Rattle.ptk_words.specs.declared.threads.Thread.{Thread}
 use Rattle.ptk_words.specs.Threads.{deadline_of_wait}
 use Rattle.ptk_words.proofs.Pools.{length-pool_set}
-use Rattle.ptk_words_parted.specs.Parts.{part_of, filled}
-use Rattle.ptk_words_parted.proofs.Entries.{own_row}
+use Rattle.ptk_words.specs.Parts.{part_of, filled}
+use Rattle.ptk_words.proofs.Entries.{own_row}
 use Rattle.ptk_clock.specs.State.{locks_of}
 use Rattle.ptk_clock.specs.Mutex.{wait_of}
 use Rattle.ptk_clock.proofs.WaitDeadlines.{deadline_at, deadlines-kept, changed_deadline}

@@ -5,3 +5,5 @@ pub mod Timed
 pub mod Changes
 pub mod Registers
 pub use Rattle.ptk_clock.specs.Schedule
+pub mod Links
+pub mod LinkChanges

@@ -2,12 +2,12 @@
 use Rattle.std.specs.Prelude.{◌≡◌, ℕ, ◌+◌, ◌<◌, false, List, [], ◌∷◌, ◌++◌, length, drop, Option, slice_set, map, replicate}
 use Rattle.ptk_words.specs.Pools.{is_in, without}
 use Rattle.ptk_words.specs.declared.threads.Thread.{Thread}
-use Rattle.ptk_words_parted.specs.Parts.{part_of, filled}
-use Rattle.ptk_threads_slots.specs.declared.link.Ends.{Ends}
-use Rattle.ptk_threads_slots.specs.declared.link.QueueName.{QueueName}
-use Rattle.ptk_threads_slots.specs.declared.slot.Slot.{Slot}
-use Rattle.ptk_threads_slots.specs.Links.{links_of, place_of, queues, free_slot, AreQueues, AreLinksFrom}
-use Rattle.ptk_threads_slots.specs.Changes.{put_before}
+use Rattle.ptk_words.specs.Parts.{part_of, filled}
+use Rattle.ptk_threads.specs.declared.link.Ends.{Ends}
+use Rattle.ptk_threads.specs.declared.link.QueueName.{QueueName}
+use Rattle.ptk_threads.specs.declared.slot.Slot.{Slot}
+use Rattle.ptk_threads.specs.Links.{links_of, place_of, queues, free_slot, AreQueues, AreLinksFrom}
+use Rattle.ptk_threads.specs.LinkChanges.{put_before}
 use Rattle.ptk_clock.specs.ByThread.{first_slot}
 
 -- ---- one partition's queues by place

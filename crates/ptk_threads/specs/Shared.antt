@@ -2,11 +2,11 @@
 use Rattle.std.specs.Prelude.{◌≡◌, ℕ, ◌+◌, ◌<◌, ◌≤◌, ◌⊎◌, true, List, [], ◌∷◌, length, map, Option, Some, None, option_map, slice_index_or}
 use Rattle.ptk_words.specs.Pools.{is_in}
 use Rattle.ptk_words.specs.declared.threads.Thread.{Thread}
-use Rattle.ptk_words_parted.specs.Parts.{part_of}
+use Rattle.ptk_words.specs.Parts.{part_of}
 use Rattle.ptk_clock.specs.ByThread.{first_slot}
-use Rattle.ptk_threads_slots.specs.declared.link.SlotLink.{SlotLink}
-use Rattle.ptk_threads_slots.specs.declared.slot.Slot.{Slot}
-use Rattle.ptk_threads_slots.specs.Links.{place_of, first_or, free_slot, no_link, shared_link, slot_at}
+use Rattle.ptk_threads.specs.declared.link.SlotLink.{SlotLink}
+use Rattle.ptk_threads.specs.declared.slot.Slot.{Slot}
+use Rattle.ptk_threads.specs.Links.{place_of, first_or, free_slot, no_link, shared_link, slot_at}
 
 -- the slot is one of the partition's
 pub record IsSlotOf (threads : List (List (Option Thread))) (p slot : ℕ) : Type 0 where

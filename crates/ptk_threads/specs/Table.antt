@@ -6,7 +6,7 @@ use Rattle.ptk_words.specs.declared.threads.Thread.{Thread}
 use Rattle.ptk_words.specs.declared.threads.Phase.{Phase}
 use Rattle.ptk_words.specs.declared.threads.Policy.{Policy}
 use Rattle.ptk_words.specs.declared.threads.Wait.{Wait}
-use Rattle.ptk_words_parted.specs.Parts.{part_of, filled}
+use Rattle.ptk_words.specs.Parts.{part_of, filled}
 use Rattle.ptk_threads.specs.Queues.{no_queues}
 
 -- by partition and then by number: the threads, None where the number is free, and their stored effective priorities;

@@ -2,7 +2,7 @@
 use Rattle.std.specs.Prelude.{◌≡◌, ℕ, List, map, slice_set, Option}
 use Rattle.ptk_words.specs.Names.{Tick}
 use Rattle.ptk_words.specs.Pools.{pool_set}
-use Rattle.ptk_words_parted.specs.Parts.{part_of}
+use Rattle.ptk_words.specs.Parts.{part_of}
 use Rattle.ptk_words.specs.declared.threads.Thread.{Thread}
 use Rattle.ptk_clock.specs.Mutex.{wait_of}
 use Rattle.ptk_words.specs.Threads.{deadline_of_wait}

@@ -3,12 +3,12 @@
 ghost use Rattle.std.specs.Prelude.{◌≡◌, option_map, Some, IsSome, IfSome};
 ghost use Rattle.ptk_words.specs.Pools.{pool_get, pool_set, pool_changed};
 ghost use Rattle.ptk_words.specs.declared.threads.Thread.{Thread};
-ghost use Rattle.ptk_threads_slots.specs.Links.{shared_links, threads_of};
+ghost use Rattle.ptk_threads.specs.Links.{shared_links, threads_of};
 ghost use Rattle.ptk_threads.specs.Table.{replaced_by};
 
+use crate::Slot;
 use crate::change::ThreadChange;
 use crate::work::Work;
-use ptk_threads_slots::Slot;
 use ptk_words::{Thread, ThreadNo};
 
 /// Changes the thread of a number, which is in use.

@@ -3,11 +3,11 @@
 ghost use Rattle.std.specs.Prelude.{◌≡◌, ◌<◌, length, IsSome, Some};
 ghost use Rattle.std.specs.Option.{option_copied};
 ghost use Rattle.ptk_words.specs.Pools.{pool_get};
-ghost use Rattle.ptk_threads_slots.specs.Links.{threads_of};
+ghost use Rattle.ptk_threads.specs.Links.{threads_of};
 ghost use Rattle.ptk_threads.specs.Table.{thread_in};
 
+use crate::Slot;
 use crate::threads::Threads;
-use ptk_threads_slots::Slot;
 use ptk_words::{PartId, Thread, ThreadNo};
 
 impl Threads {

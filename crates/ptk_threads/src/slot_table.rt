@@ -3,9 +3,9 @@
 ghost use Rattle.std.specs.Prelude.{◌≡◌, ◌<◌, ◌≤◌, true, All, length, map, replicate, slice_set, None, IsSome, IfSome, IfOk};
 ghost use Rattle.ptk_words.specs.Pools.{pool_get, pool_set, pool_changed, is_in};
 ghost use Rattle.ptk_words.specs.declared.threads.Thread.{Thread};
-ghost use Rattle.ptk_words_parted.specs.Parts.{part_of, joined, filled};
-ghost use Rattle.ptk_threads_slots.specs.Changes.{first_in};
-ghost use Rattle.ptk_threads_slots.specs.Links.{links_of, threads_of, no_ends, place_of, queues, AreQueues};
+ghost use Rattle.ptk_words.specs.Parts.{part_of, joined, filled};
+ghost use Rattle.ptk_threads.specs.LinkChanges.{first_in};
+ghost use Rattle.ptk_threads.specs.Links.{links_of, threads_of, no_ends, place_of, queues, AreQueues};
 ghost use Rattle.ptk_threads.specs.Table.{replaced_by};
 ghost use Rattle.ptk_threads.specs.Shared.{AreAlongLinks, StayInPartitions};
 ghost use Rattle.ptk_threads.specs.Queues.{no_queues, free_parts, AreListed, IsUnqueued, with_last, with_first, with_before, with_none, with_out, without_first};
@@ -13,12 +13,11 @@ ghost use Rattle.ptk_threads.specs.Queues.{no_queues, free_parts, AreListed, IsU
 use crate::change::ThreadChange;
 use crate::changes::{put_in, update_in, work_in};
 use crate::work::Work;
-use ptk_threads_slots::{
+use crate::{
     Ends, FirstThread, PLACES, QueueName, Slot, append, insert, pass_on, prepend, take, take_first,
     take_from,
 };
-use ptk_words::{PartId, Thread, ThreadNo};
-use ptk_words_parted::{Parted, repeated};
+use ptk_words::{PartId, Parted, Thread, ThreadNo, repeated};
 use std::alloc::{AllocError, Global};
 use std::marker::Model;
 
@@ -40,7 +39,7 @@ pub(crate) struct SlotTable {
 
 impl Model for SlotTable {
     ghost use Rattle.std.specs.Prelude.{map};
-    ghost use Rattle.ptk_threads_slots.specs.Links.{threads_of};
+    ghost use Rattle.ptk_threads.specs.Links.{threads_of};
     ghost use Rattle.ptk_threads.specs.Queues.{LinkedThreads, queues_by, AreLinked};
 
     ghost Value = { LinkedThreads };

@@ -4,25 +4,24 @@ ghost use Rattle.std.specs.Prelude.{◌≡◌, ◌↔◌, ◌<◌, ◌≤◌, �
 ghost use Rattle.ptk_words.specs.Pools.{least_free, pool_get, pool_set, is_in};
 ghost use Rattle.ptk_words.specs.Threads.{left_at_end, left_at_detach};
 ghost use Rattle.ptk_words.specs.declared.threads.Thread.{Thread};
-ghost use Rattle.ptk_words_parted.specs.Parts.{part_of, joined};
+ghost use Rattle.ptk_words.specs.Parts.{part_of, joined};
 ghost use Rattle.ptk_threads.specs.Table.{free_table, thread_in, stored_of, with_slot, with_changed, with_stored, with_queues, with_free, with_new, with_rest, with_left, replaced_by};
 ghost use Rattle.ptk_threads.specs.Queues.{AreListed, IsUnqueued, with_last, with_first, with_before, with_none, with_out, without_first};
 ghost use Rattle.ptk_threads.specs.Shared.{AreAlongLinks, StayInPartitions};
-ghost use Rattle.ptk_threads_slots.specs.declared.slot.Slot.{Slot};
-ghost use Rattle.ptk_threads_slots.specs.Changes.{first_in, few_of};
-ghost use Rattle.ptk_threads_slots.specs.Links.{links_of, threads_of, place_of, queues, AreQueues};
+ghost use Rattle.ptk_threads.specs.declared.slot.Slot.{Slot};
+ghost use Rattle.ptk_threads.specs.LinkChanges.{first_in, few_of};
+ghost use Rattle.ptk_threads.specs.Links.{links_of, threads_of, place_of, queues, AreQueues};
 
 use crate::change::ThreadChange;
 use crate::slot_table::{LinkedSlots, SlotTable};
 use crate::waits::{follow, follow_change};
 use crate::work::Work;
-use ptk_clock::ThreadDeadlines;
-use ptk_threads_slots::{
+use crate::{
     FirstThread, Members, QueueName, Slot, ThreadList, few_members, has_members, link_of,
     members_of,
 };
-use ptk_words::{Cpu, PartId, Phase, Policy, Priority, Thread, ThreadNo, Wait};
-use ptk_words_parted::Parted;
+use ptk_clock::ThreadDeadlines;
+use ptk_words::{Cpu, PartId, Parted, Phase, Policy, Priority, Thread, ThreadNo, Wait};
 use std::alloc::{AllocError, Global};
 use std::marker::Model;
 

@@ -2,21 +2,21 @@
 
 ghost use Rattle.std.specs.Prelude.{◌≡◌, ℕ, ◌<◌, length, map, option_map, slice_set};
 ghost use Rattle.ptk_words.specs.Pools.{pool_get, pool_set};
-ghost use Rattle.ptk_words_parted.specs.Parts.{part_of};
+ghost use Rattle.ptk_words.specs.Parts.{part_of};
 ghost use Rattle.ptk_clock.specs.Mutex.{wait_of};
 ghost use Rattle.ptk_words.specs.Threads.{deadline_of_wait};
 ghost use Rattle.ptk_clock.specs.Expiries.{next_expiry};
 ghost use Rattle.ptk_clock.specs.BySlot.{deadlines_from};
 ghost use Rattle.ptk_clock.specs.ByThread.{first_slot, least_deadline};
-ghost use Rattle.ptk_threads_slots.specs.Links.{threads_of};
+ghost use Rattle.ptk_threads.specs.Links.{threads_of};
 ghost use Rattle.ptk_threads.specs.Timed.{deadlines_in, with_deadline};
 
+use crate::Slot;
 use crate::change::DeadlineChange;
 use crate::references::thread_among;
 use crate::slot_table::SlotTable;
 use crate::threads::Threads;
 use ptk_clock::{SharedDeadlines, ThreadDeadlines};
-use ptk_threads_slots::Slot;
 use ptk_words::{PartId, ThreadNo, Tick};
 
 impl Threads {

@@ -9,8 +9,8 @@ ghost use Rattle.ptk_words_model.specs.Text.{trace_line, trace_text};
 ghost use Rattle.ptk_trace.specs.KeptSteps.{IsStep, with_newest, kept_steps};
 
 use crate::noting::Noting;
+use crate::{Decimal, Word};
 use circular_buffer::HeapCircularBuffer;
-use ptk_text::{Decimal, Word};
 use ptk_words::{Entry, ThreadNo, Tick};
 use std::alloc::{AllocError, Global};
 use std::io;
@@ -41,6 +41,17 @@ impl Model for Trace {
     ghost view = { λ a. kept_steps a.ring.capacity a.ring.items a.noted a.batch };
 
     ghost invariant = { λ a. a.noted ≤ 256 };
+}
+
+/// The steps that a trace keeps, oldest first, where they lie: one part after the other.
+#[derive(Clone, Copy)]
+pub struct Entries<'a> {
+    /// The oldest of them.
+    pub oldest: &'a [Entry],
+    /// Those after them.
+    pub later: &'a [Entry],
+    /// The newest of them.
+    pub newest: &'a [Entry],
 }
 
 impl Trace {
@@ -99,19 +110,31 @@ impl Trace {
         written
     }
 
+    /// The steps that are kept, oldest first, in three parts; any of them may be empty.
+    pub fn entries(&self) -> Entries<'_>
+        ensures { (result.oldest.now ++ result.later.now) ++ result.newest.now ≡ self.now.entries }
+    {
+        let (front, back) = self.ring.as_slices();
+        let newest = &self.batch[..self.noted];
+        let older = front.len() + back.len();
+        let gone = (older + newest.len()).saturating_sub(self.ring.capacity());
+        Entries {
+            oldest: after(front, gone),
+            later: after(back, gone.saturating_sub(front.len())),
+            newest: after(newest, gone.saturating_sub(older)),
+        }
+    }
+
     /// Writes the lines of the steps that are kept, oldest first, a newline after each, and takes no memory. An error
     /// where the writer fails; the trace stays as it was.
     pub fn lines<W: Write>(&self, out: &mut W) -> io::Result<()>
         ensures lines { OnOk result (Appends (W.contents out.old) (W.contents out.new) (trace_text self.now.entries)) }
         ensures steps { OnOk result (All IsStep self.now.entries) }
     {
-        let (front, back) = self.ring.as_slices();
-        let newest = &self.batch[..self.noted];
-        let older = front.len() + back.len();
-        let gone = (older + newest.len()).saturating_sub(self.ring.capacity());
-        put_lines(out, after(front, gone))?;
-        put_lines(out, after(back, gone.saturating_sub(front.len())))?;
-        put_lines(out, after(newest, gone.saturating_sub(older)))
+        let entries = self.entries();
+        put_lines(out, entries.oldest)?;
+        put_lines(out, entries.later)?;
+        put_lines(out, entries.newest)
     }
 }
 

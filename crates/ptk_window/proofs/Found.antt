@@ -2,9 +2,9 @@
 use Rattle.std.proofs.Common.{◌≡◌, ℕ, ◌%◌, eqb, List, get_or, Some, None, All, Contains, refl, sym, subst, ◌∙◌, inl, inr}
 use Rattle.std.proofs.lemmas.Bool.{cases_eq, cond-true, cond-false, eq-eqb, ne_eqb}
 use Rattle.std.proofs.lemmas.List.Sorted.{Contains-permutation, IsPermutation-sym}
-use Rattle.ptk_words_windows.specs.declared.window.Window.{Window}
-use Rattle.ptk_words_windows.specs.Windows.{Holds, WindowPlan, IsPlan, end_from, IsOwn, IsOwnUntil, own_ticks}
-use Rattle.ptk_words_windows.proofs.OwnLaws.{own_apart, own_from, end_one, end_none}
+use Rattle.ptk_words_model.specs.declared.window.Window.{Window}
+use Rattle.ptk_words_model.specs.Windows.{Holds, WindowPlan, IsPlan, end_from, IsOwn, IsOwnUntil, own_ticks}
+use Rattle.ptk_words_model.proofs.OwnLaws.{own_apart, own_from, end_one, end_none}
 use Rattle.ptk_window.specs.declared.table.Table.{Table}
 use Rattle.ptk_window.specs.Order.{end_of}
 use Rattle.ptk_window.specs.Stages.{ArePlanned, HasTick, plan_of}

@@ -5,11 +5,11 @@ use Rattle.std.proofs.lemmas.Nat.{mod_below, div-add-mod', mod-mul-add}
 use Rattle.std.proofs.lemmas.List.{get_or_default}
 use Rattle.std.proofs.lemmas.List.Sorted.{All-permutation}
 use Rattle.std.proofs.Math.Nat.{mul-le-mul_left, mul-le-mul_right}
-use Rattle.ptk_words_windows.specs.declared.window.Window.{Window}
-use Rattle.ptk_words_windows.specs.Windows.{Holds, end_from, IsOwn, IsFirstOwn, IsOwnUntil, own_ticks, windows_at}
-use Rattle.ptk_words_windows.proofs.Remainders.{mod_here, mod_next}
-use Rattle.ptk_words_windows.proofs.OwnLaws.{end_one, until_near}
-use Rattle.ptk_words_windows.proofs.NextLaws.{next_one, next_none, next_near}
+use Rattle.ptk_words_model.specs.declared.window.Window.{Window}
+use Rattle.ptk_words_model.specs.Windows.{Holds, end_from, IsOwn, IsFirstOwn, IsOwnUntil, own_ticks, windows_at}
+use Rattle.ptk_words_model.proofs.Remainders.{mod_here, mod_next}
+use Rattle.ptk_words_model.proofs.OwnLaws.{end_one, until_near}
+use Rattle.ptk_words_model.proofs.NextLaws.{next_one, next_none, next_near}
 use Rattle.ptk_window.specs.declared.near.Near.{Near}
 use Rattle.ptk_window.specs.declared.near.Turn.{Turn}
 use Rattle.ptk_window.specs.declared.table.Table.{Table}

@@ -3,12 +3,12 @@ use Rattle.std.proofs.Common.{◌≡◌, ℕ, zero, suc, ◌+◌, ◌-◌, ◌<�
 use Rattle.std.specs.List.Sorted.{IsNonDecreasingBy}
 use Rattle.std.proofs.lemmas.Bool.{cases_lt}
 use Rattle.std.proofs.lemmas.List.Sorted.{All-permutation, IsNonDecreasingBy-from_sort, IsPermutation-trans}
-use Rattle.ptk_words_windows.specs.declared.window.Window.{Window}
-use Rattle.ptk_words_windows.specs.WindowFaults.{window_fault}
-use Rattle.ptk_words_windows.specs.Windows.{Holds, IsTable}
-use Rattle.ptk_words_windows.proofs.FaultLaws.{accepted_table}
-use Rattle.ptk_words_windows.proofs.Places.{Fits}
-use Rattle.ptk_words_windows.proofs.OwnLaws.{all_fit}
+use Rattle.ptk_words_model.specs.declared.window.Window.{Window}
+use Rattle.ptk_words_model.specs.WindowFaults.{window_fault}
+use Rattle.ptk_words_model.specs.Windows.{Holds, IsTable}
+use Rattle.ptk_words_model.proofs.FaultLaws.{accepted_table}
+use Rattle.ptk_words_model.proofs.Places.{Fits}
+use Rattle.ptk_words_model.proofs.OwnLaws.{all_fit}
 use Rattle.ptk_window.specs.Order.{AreInOrder, AreGrouped, IsOrdered}
 use Rattle.ptk_window.proofs.Permuted.{AllPairs-permutation}
 

@@ -4,7 +4,7 @@ use Rattle.std.specs.Option.{option_or}
 use Rattle.std.specs.List.{list_any}
 use Rattle.std.proofs.lemmas.List.{drop_all}
 use Rattle.ptk_words.proofs.Lists.{drop-at}
-use Rattle.ptk_words_windows.specs.WindowFaults.{some_pair, first_fault}
+use Rattle.ptk_words_model.specs.WindowFaults.{some_pair, first_fault}
 
 -- no pair so far, and none with this one first
 pub some_pair-more : {A : Type 0} (r : A → A → Bool) (xs : List A) (i : ℕ) (x : A) (whole : Bool)

@@ -3,8 +3,8 @@ use Rattle.std.proofs.Common.{◌≡◌, ℕ, ◌+◌, ◌-◌, ◌<◌, ◌≤�
 use Rattle.std.specs.List.Sorted.{IsNonDecreasingBy, IsPartitionedBy, IsPartitionPoint}
 use Rattle.std.proofs.lemmas.Bool.{cases_order, cases_lt, or_cases, or_parts, and_parts, and_cases, and_from, or_left, or_right, ltb-true, ltb-false, leb-true, leb-false, eqb-true, eqb-false, lt-ltb, le-leb, eq-eqb}
 use Rattle.std.proofs.lemmas.List.{get_or_default}
-use Rattle.ptk_words_windows.specs.declared.window.Window.{Window}
-use Rattle.ptk_words_windows.specs.Windows.{Holds}
+use Rattle.ptk_words_model.specs.declared.window.Window.{Window}
+use Rattle.ptk_words_model.specs.Windows.{Holds}
 use Rattle.ptk_window.specs.Order.{AreInOrder, AreGrouped, IsFirstAfter, is_past}
 
 -- ---- the window that holds a place

@@ -6,9 +6,9 @@ use Rattle.std.proofs.lemmas.List.{length-map, map-append, map_more, get_or_defa
 use Rattle.std.proofs.lemmas.List.Sorted.{Contains-permutation, IsPermutation-sym}
 use Rattle.std.proofs.lemmas.Nat.{div-add-mod'}
 use Rattle.std.proofs.Math.Nat.{mul-le-mul_right}
-use Rattle.ptk_words_windows.specs.declared.window.Window.{Window}
-use Rattle.ptk_words_windows.specs.Windows.{Stage, Holds, IsOwn, IsInForce, windows_at}
-use Rattle.ptk_words_windows.proofs.InForce.{in_force, one_in_force, tick_from, from_tick}
+use Rattle.ptk_words_model.specs.declared.window.Window.{Window}
+use Rattle.ptk_words_model.specs.Windows.{Stage, Holds, IsOwn, IsInForce, windows_at}
+use Rattle.ptk_words_model.proofs.InForce.{in_force, one_in_force, tick_from, from_tick}
 use Rattle.ptk_window.specs.declared.table.Table.{Table}
 use Rattle.ptk_window.specs.Order.{IsOrdered}
 use Rattle.ptk_window.specs.Stages.{ArePlanned, HasTick, stage_of, plan_of, from_at, groups_at}

@@ -1,7 +1,7 @@
 -- Where a partition's next window stands.
 use Rattle.std.specs.Prelude.{◌≡◌, ℕ, ◌+◌, ◌<◌, ◌≤◌, List, length, slice_index_or, max}
-use Rattle.ptk_words_windows.specs.declared.window.Window.{Window}
-use Rattle.ptk_words_windows.specs.Windows.{IsOwn}
+use Rattle.ptk_words_model.specs.declared.window.Window.{Window}
+use Rattle.ptk_words_model.specs.Windows.{IsOwn}
 use Rattle.ptk_window.specs.declared.near.Near.{Near}
 use Rattle.ptk_window.specs.declared.near.Turn.{Turn}
 use Rattle.ptk_window.specs.declared.table.Table.{Table}

@@ -1,7 +1,7 @@
 -- The orders in which a stage's windows are looked up, and how an answer is told to each partition.
 use Rattle.std.specs.Prelude.{◌≡◌, ℕ, ◌+◌, ◌<◌, ◌≤◌, ◌==◌, ◌&&◌, ◌||◌, nat_lt, nat_le, Bool, List, length, slice_index_or, Option, Some, None, if◌then◌else◌, AllPairs, IsPermutation}
-use Rattle.ptk_words_windows.specs.declared.window.Window.{Window}
-use Rattle.ptk_words_windows.specs.Windows.{IsTable}
+use Rattle.ptk_words_model.specs.declared.window.Window.{Window}
+use Rattle.ptk_words_model.specs.Windows.{IsTable}
 
 -- each window ends before the next begins
 abbrev pub AreInOrder : List Window → Type 0

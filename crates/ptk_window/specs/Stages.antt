@@ -1,7 +1,7 @@
 -- The plan that the tables of its stages are, and which table has a tick's frame.
 use Rattle.std.specs.Prelude.{◌≡◌, ℕ, ◌+◌, ◌*◌, ◌<◌, ◌≤◌, List, [], map, length, slice_index_or, All}
-use Rattle.ptk_words_windows.specs.declared.window.Window.{Window}
-use Rattle.ptk_words_windows.specs.Windows.{Stage, WindowPlan, IsPlan}
+use Rattle.ptk_words_model.specs.declared.window.Window.{Window}
+use Rattle.ptk_words_model.specs.Windows.{Stage, WindowPlan, IsPlan}
 use Rattle.ptk_window.specs.Order.{IsOrdered}
 use Rattle.ptk_window.specs.declared.table.Table.{Table}
 

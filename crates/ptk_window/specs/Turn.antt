@@ -1,6 +1,6 @@
 -- A partition's turn in a plan.
 use Rattle.std.specs.Prelude.{◌≡◌, ℕ, ◌+◌, ◌*◌, ◌<◌, ◌≤◌, max, Some, All}
-use Rattle.ptk_words_windows.specs.Windows.{WindowPlan, own_ticks}
+use Rattle.ptk_words_model.specs.Windows.{WindowPlan, own_ticks}
 use Rattle.ptk_window.specs.declared.near.Turn.{Turn}
 
 -- the turn begins at the partition's first own tick from the tick on and ends with the window that holds that (own)

@@ -1,7 +1,7 @@
 -- A partition's way through its windows.
 use Rattle.std.specs.Prelude.{◌≡◌, ℕ, ◌+◌, ◌*◌, ◌<◌, ◌≤◌, List, length, slice_index_or, Option, option_map, MatchOption}
-use Rattle.ptk_words_windows.specs.declared.window.Window.{Window}
-use Rattle.ptk_words_windows.specs.Windows.{WindowPlan}
+use Rattle.ptk_words_model.specs.declared.window.Window.{Window}
+use Rattle.ptk_words_model.specs.Windows.{WindowPlan}
 use Rattle.ptk_window.specs.declared.near.Near.{Near}
 use Rattle.ptk_window.specs.declared.table.Table.{Table}
 use Rattle.ptk_window.specs.declared.walk.Stay.{Stay}

@@ -2,9 +2,9 @@
 
 ghost use Rattle.std.specs.Prelude.{◌≡◌, map, nat_le};
 ghost use Rattle.std.specs.List.{list_any};
-ghost use Rattle.ptk_words_windows.specs.WindowFaults.{some_pair, first_fault, fault_of, are_overlapping, window_fault, begins_with_zero, is_ordered, plan_fault};
+ghost use Rattle.ptk_words_model.specs.WindowFaults.{some_pair, first_fault, fault_of, are_overlapping, window_fault, begins_with_zero, is_ordered, plan_fault};
 
-use ptk_words_windows::{Window, WindowFault};
+use ptk_words_model::{Window, WindowFault};
 
 /// The fault of one window.
 pub fn fault_of(frame: u32, parts: usize, window: &Window) -> Option<WindowFault>
@@ -62,7 +62,7 @@ fn first_fault(frame: u32, parts: usize, windows: &[Window]) -> Option<WindowFau
 }
 
 /// Why this many partitions can't have these windows in this frame.
-#[tactic(auto, unfolding(ptk_words_windows::specs::WindowFaults::window_fault))]
+#[tactic(auto, unfolding(ptk_words_model::specs::WindowFaults::window_fault))]
 pub fn window_fault(frame: u32, parts: usize, windows: &[Window]) -> Option<WindowFault>
     ensures { result ≡ window_fault frame parts windows.now }
 {
@@ -128,7 +128,7 @@ fn first_table_fault(frame: u32, parts: usize, stages: &[(u64, &[Window])]) -> O
 }
 
 /// Why this many partitions can't have these stages of this frame.
-#[tactic(auto, using(crate::proofs::Pairs::mapped), unfolding(ptk_words_windows::specs::WindowFaults::plan_fault))]
+#[tactic(auto, using(crate::proofs::Pairs::mapped), unfolding(ptk_words_model::specs::WindowFaults::plan_fault))]
 pub fn plan_fault(frame: u32, parts: usize, stages: &[(u64, &[Window])]) -> Option<WindowFault>
     ensures { result ≡ plan_fault frame parts (map (λ stage. record { from = stage.0; windows = stage.1.now }) stages.now) }
 {

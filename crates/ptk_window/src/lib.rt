@@ -18,7 +18,7 @@
 //! window is neither the one where the partition was last (`Near`) nor its next one. The weight of the proofs is in the
 //! orders of a stage's two sorted lists (`proofs/Orders`), what a search in them finds (`proofs/Searches`), which stage
 //! has a tick (`proofs/StageLaws`) and where a partition's next window is (`proofs/Nexts`). Below are `ptk_words` and
-//! `ptk_words_windows`; above are the configuration and the system.
+//! `ptk_words_model`; above are the configuration and the system.
 
 mod faults;
 mod lookup;
@@ -31,5 +31,5 @@ mod walk;
 pub use faults::{fault_of, overlaps_any, plan_fault, window_fault};
 pub use near::{Near, Turn};
 pub use plan::WindowPlan;
-pub use ptk_words_windows::{Window, WindowFault};
+pub use ptk_words_model::{Window, WindowFault};
 pub use walk::Walk;

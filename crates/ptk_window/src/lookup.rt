@@ -3,11 +3,11 @@
 ghost use Rattle.std.specs.Prelude.{◌≡◌, ℕ, ◌+◌, ◌<◌, ◌≤◌, length, slice_index_or, IfOk, All, Contains, MatchOption, IsPermutation, IsSortedByKey};
 ghost use Rattle.std.specs.Ordering.{nat_cmp};
 ghost use Rattle.std.specs.List.Sorted.{IsNonDecreasingBy};
-ghost use Rattle.ptk_words_windows.specs.Windows.{Holds};
+ghost use Rattle.ptk_words_model.specs.Windows.{Holds};
 ghost use Rattle.ptk_window.specs.Order.{AreInOrder, AreGrouped, IsFirstAfter, is_past};
 
 use ptk_words::PartId;
-use ptk_words_windows::Window;
+use ptk_words_model::Window;
 use std::alloc::{AllocError, Global};
 
 /// The windows by their starts.

@@ -1,7 +1,7 @@
 //! Where a partition was last found among its windows, and how it goes on from there.
 
 ghost use Rattle.std.specs.Prelude.{◌≡◌, ℕ, ◌+◌, ◌*◌, ◌%◌, ◌^◌, ◌<◌, ◌≤◌, false, length, slice_index_or, IsTrue, All, MatchBool};
-ghost use Rattle.ptk_words_windows.specs.Windows.{IsOwn};
+ghost use Rattle.ptk_words_model.specs.Windows.{IsOwn};
 ghost use Rattle.ptk_window.specs.Order.{IsFirst};
 ghost use Rattle.ptk_window.specs.Stages.{ArePlanned, HasTick, from_at, groups_at, plan_of};
 ghost use Rattle.ptk_window.specs.declared.stages.TheConstants.{NEVER};
@@ -10,7 +10,7 @@ use crate::lookup::place_after;
 use crate::stages::{end_of, stage_at};
 use crate::table::Table;
 use ptk_words::{PartId, Tick};
-use ptk_words_windows::Window;
+use ptk_words_model::Window;
 
 /// A turn of a partition: its first own tick from some tick on, up to the end of the window that holds it.
 #[derive(Clone, Copy, PartialEq, Eq)]

@@ -7,7 +7,7 @@ use crate::stages::stage_at;
 use crate::table::Table;
 use crate::walk::Walk;
 use ptk_words::{PartId, Tick};
-use ptk_words_windows::{Window, WindowFault};
+use ptk_words_model::{Window, WindowFault};
 use std::alloc::{AllocError, Global};
 use std::marker::Model;
 
@@ -21,7 +21,7 @@ pub struct WindowPlan {
 }
 
 impl Model for WindowPlan {
-    ghost use Rattle.ptk_words_windows.specs.Windows as plan;
+    ghost use Rattle.ptk_words_model.specs.Windows as plan;
     ghost use Rattle.ptk_window.specs.Stages.{ArePlanned, plan_of};
 
     ghost Value = { plan.WindowPlan };
@@ -32,9 +32,9 @@ impl Model for WindowPlan {
 }
 
 ghost use Rattle.std.specs.Prelude.{◌≡◌, ◌≢◌, ℕ, ◌+◌, ◌*◌, ◌^◌, ◌<◌, ◌≤◌, None, Some, IfSome, IfOk, IfErr, MatchOption, All, length, map, slice_index_or};
-ghost use Rattle.ptk_words_windows.specs.WindowFaults.{plan_fault, window_fault};
+ghost use Rattle.ptk_words_model.specs.WindowFaults.{plan_fault, window_fault};
 ghost use Rattle.ptk_window.specs.Stages.{stage_of};
-ghost use Rattle.ptk_words_windows.specs.Windows.{IsOwn, IsFirstOwn, IsOwnUntil, IsPlan, Stage, own_ticks, windows_at};
+ghost use Rattle.ptk_words_model.specs.Windows.{IsOwn, IsFirstOwn, IsOwnUntil, IsPlan, Stage, own_ticks, windows_at};
 ghost use Rattle.ptk_window.specs.Order.{IsOrdered, end_of};
 ghost use Rattle.ptk_window.specs.Turn.{IsTurn, IsShort, IsSoon};
 

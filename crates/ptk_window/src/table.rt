@@ -1,12 +1,12 @@
 //! The windows of a stage, in the orders in which they are looked up.
 
 ghost use Rattle.std.specs.Prelude.{◌≡◌, ℕ, ◌+◌, ◌*◌, ◌≤◌, None, IfSome, IfOk, IsTrue, length, slice_index_or};
-ghost use Rattle.ptk_words_windows.specs.WindowFaults.{window_fault};
+ghost use Rattle.ptk_words_model.specs.WindowFaults.{window_fault};
 ghost use Rattle.ptk_window.specs.Order.{AreGrouped, IsFirst, IsOrdered};
 
 use crate::lookup::{by_partition, by_start};
 use ptk_words::PartId;
-use ptk_words_windows::Window;
+use ptk_words_model::Window;
 use std::alloc::{AllocError, Global};
 
 /// The windows that a frame has from some frame on. Beside the windows as given it keeps them in the two orders in

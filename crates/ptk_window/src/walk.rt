@@ -1,7 +1,7 @@
 //! A partition's way from one of its windows to the next.
 
 ghost use Rattle.std.specs.Prelude.{◌≡◌, ℕ, ◌+◌, ◌*◌, ◌^◌, ◌<◌, ◌≤◌, None, IfSome, MatchOption, length};
-ghost use Rattle.ptk_words_windows.specs.Windows.{own_ticks};
+ghost use Rattle.ptk_words_model.specs.Windows.{own_ticks};
 ghost use Rattle.ptk_window.specs.Order.{IsFirst};
 ghost use Rattle.ptk_window.specs.Stages.{ArePlanned, from_at, groups_at, plan_of};
 ghost use Rattle.ptk_window.specs.Turn.{IsShort, IsTurn};

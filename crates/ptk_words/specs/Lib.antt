@@ -8,3 +8,7 @@ pub mod Image
 pub mod Ranges
 pub mod Threads
 pub mod Results
+pub mod Parts
+pub mod Cuts
+pub mod Lending
+pub mod Lists

@@ -1,25 +1,35 @@
 #![tactic(auto)]
 
 //! The plain types that every crate uses (numbers of partitions, threads, slots and ticks, registers, threads, mutexes,
-//! faults, limits), the list of calls with their numbers and costs, and definitions of words, bytes, pools, calls and
-//! images.
+//! faults, limits), lists by partition, the calls with their numbers and costs, and definitions of words, bytes, pools,
+//! calls and images.
 //!
 //! - The list of calls: `Call::of_number` finds the call of every number, and `number` and `cost` are the list's, 2 to
 //!   16 ticks.
 //! - The function `cost` is that of every number, 2 where the number is no call.
 //! - A `Cpu`'s x0 reads 0 (its invariant).
 //! - The numbers of errors and faults are the definitions'.
+//! - A `Parted` is a list for each partition: `get`, `part`, `whole` read it, `set` and `lend` change one list and
+//!   leave every other.
+//! - A `Queue` is an order of one partition's threads, none twice.
 //! - The lemmas that several crates use: on options (`proofs/Options`), on lists (`proofs/Lists`), and on pools, whose
 //!   numbers count from 1 (`proofs/Pools`).
 //!
-//! Nothing is below; every other crate is above.
+//! The memory, the slot table and what is kept of each thread number are `Parted`, one vector for all partitions, so
+//! that offsets occur here alone. `Extents` says where each list lies: it is part of the `Parted` itself, for at most 8
+//! partitions, so that a look-up of a list reads no second vector. A `Queue` has room for all 32 threads from the start
+//! (`proofs/QueueLists`). The ruleset `loans` of `proofs/Cuts` is for the crates above: a loan that keeps its length is
+//! a `slice_set`. Costly to prove is `writes_back` of `lend`. Nothing is below; every other crate is above.
 
 mod calls;
+mod extents;
 mod faults;
 mod memory;
 mod mutexes;
 mod numbers;
+mod parted;
 mod processor;
+mod queue;
 mod sections;
 mod threads;
 
@@ -28,7 +38,9 @@ pub use faults::{Cause, Errno, FaultKind, ImageFault, Status};
 pub use memory::read_word;
 pub use mutexes::{MutexKind, Owner, Protocol, Soundness};
 pub use numbers::{ConditionNo, MutexNo, PartId, Priority, SlotNo, ThreadNo, Tick};
+pub use parted::{Parted, repeated};
 pub use processor::Cpu;
+pub use queue::Queue;
 pub use sections::{Arrival, Entry, Limits};
 pub use threads::{Cleanup, Phase, Policy, Thread, Wait};
 

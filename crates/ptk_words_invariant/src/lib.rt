@@ -16,7 +16,7 @@
 ghost use Rattle.std.specs.Prelude.{ℕ, List, Option};
 ghost use Rattle.ptk_words.specs.declared.sections.Arrival.{Arrival};
 ghost use Rattle.ptk_words.specs.declared.sections.Limits.{Limits};
-ghost use Rattle.ptk_words_windows.specs.Windows.{OwnTicks};
+ghost use Rattle.ptk_words_model.specs.Windows.{OwnTicks};
 ghost use Rattle.ptk_words_model.specs.State.{Part};
 ghost use Rattle.ptk_words_invariant.specs.WellLaws.{StartIsWell, CallsKeepWell, DecisionsKeepWell, StaysWell};
 

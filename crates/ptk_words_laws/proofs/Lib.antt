@@ -6,3 +6,14 @@ pub mod Sizes
 pub mod OtherThreads
 pub mod Callers
 pub mod OtherDecisions
+pub mod PlainSteps
+pub mod PlainRows
+pub mod PlainDecisions
+pub mod QuietRows
+pub mod TicksInARow
+pub mod Arrivals
+pub mod RowsKept
+pub mod Sooner
+pub mod IdleTicks
+pub mod ReplyDecisions
+pub mod PreparedTicks

@@ -27,7 +27,7 @@ use Rattle.ptk_words_model.specs.CallTable.{answer_of}
 use Rattle.ptk_words.specs.Calls.{call_of}
 use Rattle.ptk_words.specs.Processor.{register}
 use Rattle.ptk_words.specs.declared.TheConstants.{A7}
-use Rattle.ptk_words_instructions.specs.Instructions.{Effect, Done, Call as EnvironmentCall, Break, Fault}
+use Rattle.ptk_words_model.specs.Instructions.{Effect, Done, Call as EnvironmentCall, Break, Fault}
 use Rattle.ptk_words_model.specs.CallTable.{answer_to}
 use Rattle.ptk_words_model.specs.Decision.{after_effect, invocation, with_thread_cpu}
 use Rattle.ptk_words.specs.declared.sections.Limits.{Limits}

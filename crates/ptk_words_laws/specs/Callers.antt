@@ -7,7 +7,7 @@ use Rattle.ptk_words.specs.Processor.{Processor, register}
 use Rattle.ptk_words.specs.declared.calls.Call.{Call}
 use Rattle.ptk_words.specs.declared.sections.Limits.{Limits}
 use Rattle.ptk_words.specs.declared.threads.Thread.{Thread}
-use Rattle.ptk_words_instructions.specs.Instructions.{Call as EnvironmentCall}
+use Rattle.ptk_words_model.specs.Instructions.{Call as EnvironmentCall}
 use Rattle.ptk_words_model.specs.State.{Part}
 use Rattle.ptk_words_model.specs.declared.Invocation.{Invocation}
 use Rattle.ptk_words_model.specs.declared.Runner.{Runner}

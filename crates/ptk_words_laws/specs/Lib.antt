@@ -4,3 +4,9 @@ pub mod Laws
 pub mod Sizes
 pub mod Others
 pub mod Callers
+pub mod Quiet
+pub mod QuietLaws
+pub mod Idle
+pub mod IdleLaws
+pub mod Replies
+pub mod Prepared

@@ -4,7 +4,7 @@ ghost use Rattle.std.specs.Prelude.{ℕ, List, Option};
 ghost use Rattle.ptk_words.specs.declared.threads.Thread.{Thread};
 ghost use Rattle.ptk_words.specs.declared.sections.Arrival.{Arrival};
 ghost use Rattle.ptk_words.specs.declared.sections.Limits.{Limits};
-ghost use Rattle.ptk_words_windows.specs.Windows.{OwnTicks};
+ghost use Rattle.ptk_words_model.specs.Windows.{OwnTicks};
 ghost use Rattle.ptk_words_model.specs.State.{Mutex, Console, Part};
 ghost use Rattle.ptk_words_model.specs.Withdrawal.{Expiry};
 ghost use Rattle.ptk_words_laws.specs.Laws.{CostsAreSmall, CallsAreNumbered, ChainIsDecided, PriorityIsGreatest, ArrivalsAreDue, IsInOrder};

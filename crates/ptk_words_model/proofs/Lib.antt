@@ -1,2 +1,13 @@
 pub mod Last
 pub mod Runners
+pub mod Masks
+pub mod FieldRows
+pub mod RowLaws
+pub mod PlainJoins
+pub mod Remainders
+pub mod Lists
+pub mod Places
+pub mod InForce
+pub mod OwnLaws
+pub mod NextLaws
+pub mod FaultLaws

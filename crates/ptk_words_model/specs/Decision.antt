@@ -12,7 +12,7 @@ use Rattle.ptk_words.specs.declared.sections.Arrival.{Arrival}
 use Rattle.ptk_words.specs.declared.sections.Entry.{Entry}
 use Rattle.ptk_words.specs.declared.sections.Limits.{Limits}
 use Rattle.ptk_words.specs.declared.threads.Thread.{Thread}
-use Rattle.ptk_words_instructions.specs.Instructions.{can_fetch, Effect, Done, Call, Break, Fault, effect_at}
+use Rattle.ptk_words_model.specs.Instructions.{can_fetch, Effect, Done, Call, Break, Fault, effect_at}
 use Rattle.ptk_words_model.specs.declared.Runner.{Runner}
 use Rattle.ptk_words_model.specs.declared.Spent.{Spent}
 use Rattle.ptk_words_model.specs.declared.Spent.TheVariants.{Step, Idle, Lost}

@@ -24,3 +24,12 @@ pub mod CallTable
 pub mod Decision
 pub mod Run
 pub mod Text
+pub mod Instructions
+pub mod Fields
+pub mod RowLaws
+pub mod PlainSteps
+pub mod PlainLaws
+pub mod Windows
+pub mod FaultNumbers
+pub mod WindowFaults
+pub mod OwnTicksLaws

@@ -1,20 +1,41 @@
 #![tactic(auto)]
 
-//! The machine of one partition as definitions: state, priorities, places, mutexes, condition variables, console, keys,
-//! unwinding, calls, decision, the partition alone, and the texts of reports and traces.
+//! The machine of one partition as definitions: instructions, windows, state, priorities, places, mutexes, condition
+//! variables, console, keys, unwinding, calls, decision, the partition alone, and the texts of reports and traces.
 //!
-//! - No code but `LockMove::is_waiting`, `LockMove::reply_after` and `thread_counts_of`: definitions that contracts
-//!   cite.
+//! - `no_word_agrees_twice`: no word agrees with two rows of the instruction table; the table by fields finds the same
+//!   row for every word.
+//! - `steps_join`, `entries_join`: plain steps in a row (no call, break or fault among them), and their trace entries,
+//!   are those of a first part and then the rest.
+//! - `accepted_is_plan`: stages of windows without a fault are a plan.
+//! - For a plan `in_force_holds` (the windows of a frame are those of the stage of the greatest number not above the
+//!   frame's), `next_is_first`, `next_is_near`, `end_is_of_window`, `window_is_whole`, `own_ticks_are_apart`, and the
+//!   converses `next_is_one` and `end_is_one`.
 //!
-//! The code declares the few plain types that these definitions use. Below are `ptk_words`, `ptk_words_instructions`
-//! and `ptk_words_windows`; every pool, the gate, the kernel and the system cite these definitions.
+//! It has definitions that contracts cite, the few plain types that these use, and laws, which are the contracts of
+//! functions without code; its only code is `LockMove::is_waiting`, `LockMove::reply_after` and `thread_counts_of`.
+//! `specs/Instructions` has the instruction table as the RISC-V manual has it, `specs/Fields` the one that proofs about
+//! code by opcode and funct3 use. Below is `ptk_words`; every pool, the gate, the kernel and the system cite these
+//! definitions.
+
+mod fault;
+mod instruction_laws;
+mod window;
+mod window_laws;
 
 ghost use Rattle.std.specs.Prelude.{◌≡◌, map, option_map, IfOk};
 ghost use Rattle.ptk_words.specs.Faults.{errno_number};
 ghost use Rattle.ptk_words_model.specs.Mutex.{is_waiting, move_reply};
 
+pub use fault::WindowFault;
+pub use instruction_laws::{entries_join, no_word_agrees_twice, rows_by_fields, steps_join};
 use ptk_words::{Errno, Limits, Policy, Priority, Thread, ThreadNo, Tick};
 use std::alloc::{AllocError, Global};
+pub use window::Window;
+pub use window_laws::{
+    accepted_is_plan, end_is_of_window, end_is_one, in_force_holds, next_is_first, next_is_near,
+    next_is_one, own_ticks_are_apart, window_is_whole,
+};
 
 /// The outcome of a call.
 #[derive(Clone, Copy, PartialEq, Eq)]

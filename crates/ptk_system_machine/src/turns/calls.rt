@@ -2,8 +2,8 @@
 
 ghost use Rattle.std.specs.Prelude.{◌≡◌, ◌<◌, ◌≤◌, ◌-◌, ℕ, Some, length};
 ghost use Rattle.ptk_words.specs.declared.TheConstants.{LAST_TICK};
-ghost use Rattle.ptk_words_windows.specs.Windows.{own_ticks};
-ghost use Rattle.ptk_words_batches.specs.Quiet.{after_ticks};
+ghost use Rattle.ptk_words_model.specs.Windows.{own_ticks};
+ghost use Rattle.ptk_words_laws.specs.Quiet.{after_ticks};
 ghost use Rattle.ptk_kernel.specs.Kept.{limits_at, part_at};
 ghost use Rattle.ptk_system_machine.specs.Accounts.{IsBehind};
 ghost use Rattle.ptk_system_machine.specs.Steady.{AreSteady, IsStillBehindCall, states_from};

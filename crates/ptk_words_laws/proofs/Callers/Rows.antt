@@ -15,7 +15,7 @@ use Rattle.ptk_words.specs.declared.threads.Phase.TheVariants.{Normal, Unwinding
 use Rattle.ptk_words.specs.declared.threads.Thread.{Thread}
 use Rattle.ptk_words.specs.declared.threads.Wait.{Wait}
 use Rattle.ptk_words.specs.declared.threads.Wait.TheVariants.{InputWait}
-use Rattle.ptk_words_instructions.specs.Instructions.{Effect, Done, Call as EnvironmentCall, Break, Fault, effect_at}
+use Rattle.ptk_words_model.specs.Instructions.{Effect, Done, Call as EnvironmentCall, Break, Fault, effect_at}
 use Rattle.ptk_words_model.specs.declared.Invocation.{Invocation}
 use Rattle.ptk_words_model.specs.declared.Reply.{Reply}
 use Rattle.ptk_words_model.specs.declared.Runner.{Runner}

@@ -16,8 +16,8 @@ use Rattle.ptk_words.specs.declared.threads.Phase.TheVariants.{Normal, Unwinding
 use Rattle.ptk_words.specs.declared.threads.Thread.{Thread}
 use Rattle.ptk_words.specs.declared.threads.Wait.{Wait}
 use Rattle.ptk_words.specs.declared.threads.Wait.TheVariants.{InputWait}
-use Rattle.ptk_words_instructions.specs.Instructions.{Effect, Call, effect_at}
-use Rattle.ptk_words_windows.specs.Windows.{OwnTicks}
+use Rattle.ptk_words_model.specs.Instructions.{Effect, Call, effect_at}
+use Rattle.ptk_words_model.specs.Windows.{OwnTicks}
 use Rattle.ptk_words_model.specs.declared.Spent.{Spent}
 use Rattle.ptk_words_model.specs.declared.Spent.TheVariants.{Step, Idle, Lost}
 use Rattle.ptk_words_model.specs.declared.Runner.{Runner}

@@ -1,7 +1,7 @@
 -- Runs over window plans: windows that move, go to another partition, or are lost for some frames.
 use Rattle.std.specs.Prelude.{◌≡◌, [], ◌∷◌, codes, Some}
 use Rattle.ptk_words.specs.Names.{Ticks}
-use Rattle.ptk_words_windows.specs.Windows.{OwnTicks}
+use Rattle.ptk_words_model.specs.Windows.{OwnTicks}
 use Rattle.ptk_words_model.specs.State.{State}
 use Rattle.ptk_words_model.specs.Text.{report_text}
 use Rattle.ptk_words_laws.specs.Guests.{image_of_words, small, window, halves, from_frame, own_by, run, name, lines}

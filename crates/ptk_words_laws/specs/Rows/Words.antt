@@ -1,6 +1,6 @@
 -- Words of the instruction table, and words outside it.
 use Rattle.std.specs.Prelude.{◌≡◌, ℕ, List, [], ◌∷◌, map, length, Option, Some, None, option_map}
-use Rattle.ptk_words_instructions.specs.Instructions.{Name, Lui, Jal, Jalr, Addi, Lw, Lbu, Ecall, Ebreak, Fence, IType, JType, instruction_table, decode_of, immediate_of}
+use Rattle.ptk_words_model.specs.Instructions.{Name, Lui, Jal, Jalr, Addi, Lw, Lbu, Ecall, Ebreak, Fence, IType, JType, instruction_table, decode_of, immediate_of}
 
 -- the names of words (RISC-V 24)
 abbrev pub names : List ℕ → List (Option Name)

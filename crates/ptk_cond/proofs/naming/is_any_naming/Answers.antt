@@ -5,7 +5,7 @@ use Rattle.std.proofs.lemmas.Iterator.Search.{any_from_yields_List}
 use Rattle.ptk_words.specs.declared.threads.Thread.{Thread}
 use Rattle.ptk_words_model.specs.Mutex.{wait_of}
 use Rattle.ptk_words_model.specs.Condition.{mutex_of_condition_wait, is_named}
-use Rattle.ptk_threads_slots.specs.declared.slot.Slot.{Slot}
+use Rattle.ptk_threads.specs.declared.slot.Slot.{Slot}
 use Rattle.ptk_threads.proofs.Slots.{threads_any}
 use Rattle.ptk_cond.proofs.naming.is_any_naming.Goals as goal
 

@@ -1,6 +1,6 @@
 use Rattle.std.proofs.Common.{◌∙◌, ap, List, ℕ}
 use Rattle.ptk_words.specs.Pools.{first_of_greatest}
-use Rattle.ptk_words_parted.specs.Parts.{part_of}
+use Rattle.ptk_words.specs.Parts.{part_of}
 use Rattle.ptk_threads.specs.Table.{stored_of}
 use Rattle.ptk_cond.proofs.Steps.{next-is, next_may}
 use Rattle.ptk_cond.proofs.signals.first_waiter.Goals as goal

@@ -1,6 +1,6 @@
 use Rattle.std.proofs.Common.{◌≡◌, ◌∷◌, refl, arith}
 use Rattle.std.proofs.lemmas.Grind.{common_steps}
-use Rattle.ptk_words_windows.specs.Windows.{Stage}
+use Rattle.ptk_words_model.specs.Windows.{Stage}
 use Rattle.ptk_config.proofs.Stages.{stages_of, given-more, given-numbers}
 use Rattle.ptk_config.proofs.config.stages_given.Goals as goal
 

@@ -1,7 +1,7 @@
 use Rattle.std.proofs.Common.{◌≡◌, ◌+◌, ◌∙◌, sym, ap, arith, Ok}
 use Rattle.std.proofs.lemmas.Grind.{common_steps}
 use Rattle.toml.specs.View.{view}
-use Rattle.ptk_words_windows.specs.Windows.{Stage}
+use Rattle.ptk_words_model.specs.Windows.{Stage}
 use Rattle.ptk_config.specs.Windows.{stage, stage_in}
 use Rattle.ptk_config.proofs.Walks.{each_after-more, each_after-end}
 use Rattle.ptk_config.proofs.Stages.{last_from-push, AreInOrder-more}

@@ -3,7 +3,7 @@ use Rattle.std.specs.Prelude.{ℕ}
 use Rattle.ptk_words.specs.declared.sections.Limits.{Limits}
 use Rattle.ptk_words_model.specs.State.{Part}
 use Rattle.ptk_words.specs.Faults.{is_active}
-use Rattle.ptk_words_batches.specs.Idle.{IsIdle}
+use Rattle.ptk_words_laws.specs.Idle.{IsIdle}
 use Rattle.ptk_gate_steps.proofs.QuietStops.{event_stop_le}
 use Rattle.ptk_gate_steps.proofs.IdleStops.{idle_up, idle_no_later}
 use Rattle.ptk_gate_steps.proofs.idle_stops.stays_idle_until.Goals as goal

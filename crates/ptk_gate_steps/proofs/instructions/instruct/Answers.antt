@@ -1,4 +1,4 @@
-use Rattle.ptk_words_instructions.specs.Instructions.{effect_at}
+use Rattle.ptk_words_model.specs.Instructions.{effect_at}
 use Rattle.ptk_gate_steps.proofs.StepEffects.{instruct_moved}
 use Rattle.ptk_gate_steps.proofs.instructions.instruct.Goals as goal
 

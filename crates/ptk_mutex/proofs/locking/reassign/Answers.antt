@@ -1,10 +1,10 @@
 use Rattle.std.proofs.Common.{arith, sym, ap, subst, ◌∙◌}
 use Rattle.std.specs.Prelude.{List, Option}
 use Rattle.ptk_words.specs.declared.threads.Thread.{Thread}
-use Rattle.ptk_words_parted.specs.Parts.{part_of}
+use Rattle.ptk_words.specs.Parts.{part_of}
 use Rattle.ptk_words_model.specs.State.{Mutex}
 use Rattle.ptk_words_model.specs.Priority.{assigned_of}
-use Rattle.ptk_syncs.specs.Rosters.{Rostered}
+use Rattle.ptk_roster.specs.Rosters.{Rostered}
 use Rattle.ptk_threads.specs.Table.{with_priority}
 use Rattle.ptk_mutex.specs.Before.{IsBeforeAssignment}
 use Rattle.ptk_mutex.specs.Moves.{after_assignment}

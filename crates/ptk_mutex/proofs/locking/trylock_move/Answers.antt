@@ -2,10 +2,10 @@ use Rattle.std.proofs.Common.{List, [], ◌∙◌, ap}
 use Rattle.std.specs.Prelude.{Option}
 use Rattle.ptk_words.specs.Pools.{pool_get}
 use Rattle.ptk_words.specs.declared.threads.Thread.{Thread}
-use Rattle.ptk_words_parted.specs.Parts.{part_of}
+use Rattle.ptk_words.specs.Parts.{part_of}
 use Rattle.ptk_words_model.specs.State.{Mutex, locks_of}
 use Rattle.ptk_words_model.specs.Mutex.{trylock_move}
-use Rattle.ptk_mutex_priorities.proofs.Bare.{trylock_move-waiters, pool_get-bare}
+use Rattle.ptk_roster.proofs.Bare.{trylock_move-waiters, pool_get-bare}
 use Rattle.ptk_mutex.proofs.locking.trylock_move.Goals as goal
 
 pub returns-in-Some : goal.returns-in-Some

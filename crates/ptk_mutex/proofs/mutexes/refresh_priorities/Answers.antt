@@ -1,10 +1,10 @@
 use Rattle.std.proofs.Common.{◌≡◌, ℕ, List, ◌∙◌, ap}
 use Rattle.std.specs.Prelude.{Option, slice_set}
 use Rattle.ptk_words.specs.declared.threads.Thread.{Thread}
-use Rattle.ptk_words_parted.specs.Parts.{part_of}
+use Rattle.ptk_words.specs.Parts.{part_of}
 use Rattle.ptk_words_model.specs.Priority.{effective_priorities}
-use Rattle.ptk_syncs.specs.Rosters.{Rostered}
-use Rattle.ptk_mutex_priorities.proofs.Bare.{effective_priorities-bare}
+use Rattle.ptk_roster.specs.Rosters.{Rostered}
+use Rattle.ptk_roster.proofs.Bare.{effective_priorities-bare}
 use Rattle.ptk_mutex.proofs.mutexes.refresh_priorities.Goals as goal
 
 pub store-requires-clause-levels : goal.store-requires-clause-levels

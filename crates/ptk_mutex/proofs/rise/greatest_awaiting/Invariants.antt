@@ -1,5 +1,5 @@
 use Rattle.std.proofs.Common.{◌≡◌, ◌≤◌}
-use Rattle.ptk_words_parted.specs.Parts.{part_of}
+use Rattle.ptk_words.specs.Parts.{part_of}
 use Rattle.ptk_mutex.proofs.Takes.{greatest_of}
 use Rattle.ptk_mutex.proofs.rise.greatest_awaiting.Given as goal
 

@@ -1,7 +1,7 @@
 use Rattle.std.proofs.Common.{ℕ, List, refl, ◌∙◌, ap}
 use Rattle.std.specs.Prelude.{Option}
 use Rattle.ptk_words.specs.declared.threads.Thread.{Thread}
-use Rattle.ptk_words_parted.specs.Parts.{part_of}
+use Rattle.ptk_words.specs.Parts.{part_of}
 use Rattle.ptk_words_model.specs.Priority.{assigned_of}
 use Rattle.ptk_mutex.specs.Rosters.{with_priorities, next_at}
 use Rattle.ptk_mutex.proofs.Takes.{assignment_rises, assignment_visited}

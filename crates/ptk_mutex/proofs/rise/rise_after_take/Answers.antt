@@ -1,5 +1,5 @@
 use Rattle.std.proofs.Common.{ℕ, List, refl, ◌∙◌, ap}
-use Rattle.ptk_words_parted.specs.Parts.{part_of}
+use Rattle.ptk_words.specs.Parts.{part_of}
 use Rattle.ptk_mutex.specs.Rosters.{with_priorities, next_at}
 use Rattle.ptk_mutex.proofs.Visits.{unvisited}
 use Rattle.ptk_mutex.proofs.Takes.{gained_of-here, take_rises, take_stays, take_visited}

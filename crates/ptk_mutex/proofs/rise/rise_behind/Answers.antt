@@ -1,5 +1,5 @@
 use Rattle.std.proofs.Common.{ℕ, List, refl, sym, ◌∙◌, ap}
-use Rattle.ptk_words_parted.specs.Parts.{part_of}
+use Rattle.ptk_words.specs.Parts.{part_of}
 use Rattle.ptk_mutex.specs.Rosters.{with_priorities, next_at}
 use Rattle.ptk_mutex.proofs.Visits.{unvisited}
 use Rattle.ptk_mutex.proofs.Waits.{wait_rises, wait_stays, wait_visited}

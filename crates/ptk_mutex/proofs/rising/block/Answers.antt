@@ -1,6 +1,6 @@
 use Rattle.std.proofs.Common.{ap}
-use Rattle.ptk_words_parted.specs.Parts.{part_of}
-use Rattle.ptk_syncs.specs.Rosters.{Rostered}
+use Rattle.ptk_words.specs.Parts.{part_of}
+use Rattle.ptk_roster.specs.Rosters.{Rostered}
 use Rattle.ptk_mutex.proofs.Raised.{block_before, block_next, block_put, inheritor-read, stored_visited}
 use Rattle.ptk_mutex.proofs.rising.block.Goals as goal
 

@@ -1,10 +1,10 @@
 use Rattle.std.proofs.Common.{ℕ, List, sym, ap, subst}
-use Rattle.ptk_mutex_priorities.specs.declared.slot.Change.TheVariants.{CountUp}
-use Rattle.ptk_syncs.specs.Rosters.{Rostered}
+use Rattle.ptk_roster.specs.declared.slot.Change.TheVariants.{CountUp}
+use Rattle.ptk_roster.specs.Rosters.{Rostered}
 use Rattle.ptk_mutex.specs.Visits.{IsVisited}
 use Rattle.ptk_mutex.proofs.Raised.{amended_put}
 use Rattle.ptk_mutex.proofs.Visits.{unvisited}
-use Rattle.ptk_words_parted.specs.Parts.{part_of}
+use Rattle.ptk_words.specs.Parts.{part_of}
 use Rattle.ptk_mutex.proofs.rising.count_up.Goals as goal
 
 pub returns-clause-roster : goal.returns-clause-roster

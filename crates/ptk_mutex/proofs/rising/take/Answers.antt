@@ -1,11 +1,11 @@
 use Rattle.std.proofs.Common.{◌≡◌, sym, ap, subst}
 use Rattle.std.specs.Prelude.{IsSome, slice_set}
 use Rattle.ptk_words.specs.Pools.{pool_changed}
-use Rattle.ptk_words_parted.specs.Parts.{part_of}
+use Rattle.ptk_words.specs.Parts.{part_of}
 use Rattle.ptk_threads.specs.Table.{ThreadTable, thread_in}
-use Rattle.ptk_mutex_priorities.specs.declared.slot.Change.TheVariants.{Take}
-use Rattle.ptk_mutex_priorities.specs.Changes.{mutex_changed}
-use Rattle.ptk_syncs.specs.Rosters.{Rostered}
+use Rattle.ptk_roster.specs.declared.slot.Change.TheVariants.{Take}
+use Rattle.ptk_roster.specs.Changes.{mutex_changed}
+use Rattle.ptk_roster.specs.Rosters.{Rostered}
 use Rattle.ptk_words_model.specs.Mutex.{after_take}
 use Rattle.ptk_mutex.specs.Tables.{locks_by}
 use Rattle.ptk_mutex.proofs.Steps.{mutex_alone, refreshed_put}

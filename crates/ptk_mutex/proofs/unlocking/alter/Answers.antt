@@ -1,6 +1,6 @@
-use Rattle.ptk_syncs.specs.Rosters.{Rostered}
+use Rattle.ptk_roster.specs.Rosters.{Rostered}
 use Rattle.ptk_words_model.specs.State.{Locks}
-use Rattle.ptk_mutex_priorities.specs.Changes.{mutex_changed}
+use Rattle.ptk_roster.specs.Changes.{mutex_changed}
 use Rattle.ptk_mutex.specs.Tables.{locks_by}
 use Rattle.ptk_mutex.specs.Moves.{after_change}
 use Rattle.ptk_mutex.proofs.Steps.{mutex_alone, refreshed_put, put_ready, locked_change}

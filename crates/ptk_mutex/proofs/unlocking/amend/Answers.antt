@@ -1,4 +1,4 @@
-use Rattle.ptk_syncs.specs.Rosters.{Rostered}
+use Rattle.ptk_roster.specs.Rosters.{Rostered}
 use Rattle.ptk_words_model.specs.State.{Locks}
 use Rattle.ptk_mutex.specs.Tables.{locks_by}
 use Rattle.ptk_mutex.specs.Moves.{after_change}

@@ -1,6 +1,6 @@
 use Rattle.std.proofs.Common.{◌∙◌, ap, List, ℕ}
 use Rattle.ptk_words.specs.Pools.{first_of_greatest}
-use Rattle.ptk_words_parted.specs.Parts.{part_of}
+use Rattle.ptk_words.specs.Parts.{part_of}
 use Rattle.ptk_threads.specs.Table.{stored_of}
 use Rattle.ptk_mutex.proofs.Moved.{choice-is}
 use Rattle.ptk_mutex.proofs.unlocking.first_waiter.Goals as goal

@@ -7,7 +7,7 @@ use Rattle.ptk_words_model.specs.State.{Locks}
 use Rattle.ptk_words_model.specs.Priority.{awaited, thread_at}
 use Rattle.ptk_words_model.specs.Schedule.{after_wake}
 use Rattle.ptk_words_model.specs.Mutex.{after_move, is_waiting}
-use Rattle.ptk_syncs.specs.Rosters.{Rostered}
+use Rattle.ptk_roster.specs.Rosters.{Rostered}
 use Rattle.ptk_mutex.specs.Tables.{locks_by, put_locks}
 use Rattle.ptk_mutex.proofs.Raised.{move_threads, relock_wakes, wake_put}
 use Rattle.ptk_mutex.proofs.NoWaiters.{made_free}

@@ -1,6 +1,6 @@
 use Rattle.std.proofs.Common.{◌≡◌, ◌-◌, ℕ, sym, ◌∙◌, ap, subst, arith}
 use Rattle.std.specs.Prelude.{Option}
-use Rattle.ptk_words_parted.specs.Parts.{part_of}
+use Rattle.ptk_words.specs.Parts.{part_of}
 use Rattle.ptk_mutex.specs.Visits.{reads}
 use Rattle.ptk_mutex.specs.Rosters.{next_at}
 use Rattle.ptk_mutex.proofs.Rosters.{walked, set_at, walk_stops, walk_goes, counts_on}

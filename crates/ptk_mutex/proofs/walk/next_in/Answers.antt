@@ -1,10 +1,10 @@
 use Rattle.std.proofs.Common.{List, ◌∙◌, ap}
 use Rattle.std.specs.Prelude.{Option}
 use Rattle.ptk_words.specs.declared.threads.Thread.{Thread}
-use Rattle.ptk_words_parted.specs.Parts.{part_of}
+use Rattle.ptk_words.specs.Parts.{part_of}
 use Rattle.ptk_words_model.specs.State.{Mutex}
 use Rattle.ptk_words_model.specs.Priority.{next_in_chain}
-use Rattle.ptk_mutex_priorities.proofs.Bare.{next_in_chain-bare}
+use Rattle.ptk_roster.proofs.Bare.{next_in_chain-bare}
 use Rattle.ptk_mutex.proofs.walk.next_in.Goals as goal
 
 pub returns : goal.returns

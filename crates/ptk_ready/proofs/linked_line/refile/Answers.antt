@@ -1,8 +1,8 @@
 use Rattle.std.proofs.Common.{◌∙◌, ap, subst, sym}
 use Rattle.ptk_threads.specs.Table.{ThreadTable, with_queues}
 use Rattle.ptk_threads.specs.Queues.{IsUnqueued, with_none, with_last, with_before}
-use Rattle.ptk_threads_slots.specs.declared.link.QueueName.TheVariants.{Ready}
-use Rattle.ptk_words_parted.specs.Parts.{part_of}
+use Rattle.ptk_threads.specs.declared.link.QueueName.TheVariants.{Ready}
+use Rattle.ptk_words.specs.Parts.{part_of}
 use Rattle.ptk_ready.proofs.Partitions.{queues_twice, unqueued_there}
 use Rattle.ptk_ready.proofs.linked_line.refile.Goals as goal
 

@@ -1,8 +1,8 @@
 use Rattle.std.proofs.Common.{◌≡◌, ◌+◌, ◌-◌, suc, length, false, ◌∙◌, ap, arith, w64, to_z, of_z}
 use Rattle.std.specs.Prelude.{int_lt}
 use Rattle.std.proofs.lemmas.Int.{ints}
-use Rattle.ptk_threads_slots.specs.declared.link.Link.{Link}
-use Rattle.ptk_threads_slots.specs.Links.{links_of}
+use Rattle.ptk_threads.specs.declared.link.Link.{Link}
+use Rattle.ptk_threads.specs.Links.{links_of}
 use Rattle.ptk_ready.specs.Entries.{stamp_of}
 use Rattle.ptk_ready.proofs.Filed.{walk_on}
 use Rattle.ptk_ready.proofs.places.first_after.Goals as goal

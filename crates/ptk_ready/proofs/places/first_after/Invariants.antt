@@ -1,6 +1,6 @@
 use Rattle.std.proofs.Common.{◌≡◌, ◌-◌, suc, length}
 use Rattle.std.specs.Prelude.{int_lt, find}
-use Rattle.ptk_threads_slots.specs.Links.{links_of, walk}
+use Rattle.ptk_threads.specs.Links.{links_of, walk}
 use Rattle.ptk_ready.specs.Entries.{stamp_of}
 use Rattle.ptk_ready.proofs.places.first_after.Given as goal
 

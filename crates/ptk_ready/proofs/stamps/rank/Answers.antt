@@ -1,7 +1,7 @@
 use Rattle.std.proofs.Common.{◌≡◌, suc, refl, add-zero, ◌∙◌, rules, arith, get_or, pos, w64, to_z, of_z, FitsSigned}
 use Rattle.std.specs.Prelude.{int_lt, ◌&&◌, option_map}
 use Rattle.std.proofs.lemmas.Int.{to_z-of_z}
-use Rattle.ptk_threads_slots.specs.Links.{links_of, place_of}
+use Rattle.ptk_threads.specs.Links.{links_of, place_of}
 use Rattle.ptk_ready.specs.Entries.{is_ready, is_ready_place, stamp_of}
 use Rattle.ptk_ready.proofs.Ranks.{read_ready, rank_more, count_small}
 use Rattle.ptk_ready.proofs.stamps.rank.Goals as goal

@@ -1,7 +1,7 @@
 use Rattle.std.proofs.Common.{◌≡◌}
 use Rattle.std.specs.Prelude.{int_lt, filter, length}
 use Rattle.ptk_words.specs.Pools.{numbers_to}
-use Rattle.ptk_threads_slots.specs.Links.{links_of}
+use Rattle.ptk_threads.specs.Links.{links_of}
 use Rattle.ptk_ready.specs.Entries.{is_ready, stamp_of}
 use Rattle.ptk_ready.proofs.stamps.rank.Given as goal
 

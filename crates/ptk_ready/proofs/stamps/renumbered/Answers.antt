@@ -1,7 +1,7 @@
 use Rattle.std.proofs.Common.{◌≡◌, ap, ◌∙◌, rules, arith, get_or, pos, w64, to_z, of_z, FitsSigned}
 use Rattle.std.proofs.lemmas.List.{length-set}
 use Rattle.std.proofs.lemmas.Int.{to_z-of_z}
-use Rattle.ptk_threads_slots.specs.Links.{links_of}
+use Rattle.ptk_threads.specs.Links.{links_of}
 use Rattle.ptk_ready.specs.Stamps.{rank}
 use Rattle.ptk_ready.proofs.Ranks.{one_written, all_written}
 use Rattle.ptk_ready.proofs.stamps.renumbered.Goals as goal

@@ -1,5 +1,5 @@
 use Rattle.std.proofs.Common.{◌≡◌, ℕ, ◌<◌, length, get_or, pos}
-use Rattle.ptk_threads_slots.specs.Links.{links_of}
+use Rattle.ptk_threads.specs.Links.{links_of}
 use Rattle.ptk_ready.specs.Stamps.{rank}
 use Rattle.ptk_ready.proofs.stamps.renumbered.Given as goal
 

@@ -1,6 +1,6 @@
 use Rattle.std.proofs.Common.{◌≡◌, ℕ, ◌<◌, List, length, subst, ap, ◌∙◌}
 use Rattle.ptk_words.specs.declared.sections.Limits.{Limits}
-use Rattle.ptk_words_windows.specs.Windows.{WindowPlan}
+use Rattle.ptk_words_model.specs.Windows.{WindowPlan}
 use Rattle.ptk_system_machine.specs.Whole.{account_at, first_account_of}
 use Rattle.ptk_system.proofs.Loading.{machine_starts}
 use Rattle.ptk_system.proofs.booting.first_machine.Goals as goal

@@ -1,4 +1,4 @@
-use Rattle.ptk_words_windows.proofs.OwnLaws.{own_apart}
+use Rattle.ptk_words_model.proofs.OwnLaws.{own_apart}
 use Rattle.ptk_system.proofs.Views.{step_stays}
 use Rattle.ptk_system.proofs.laws.one_processor.Goals as goal
 

@@ -1,6 +1,6 @@
 use Rattle.std.proofs.Common.{◌≡◌, ℕ, None, sym, subst, arith}
 use Rattle.std.specs.Prelude.{IfSome}
-use Rattle.ptk_words_windows.specs.Windows.{WindowPlan, own_ticks}
+use Rattle.ptk_words_model.specs.Windows.{WindowPlan, own_ticks}
 use Rattle.ptk_window.specs.Turn.{IsTurn}
 use Rattle.ptk_system_machine.proofs.Coming.{at_some, turn_of}
 use Rattle.ptk_system_machine.proofs.Ticks.{in_window}

@@ -1,7 +1,7 @@
 use Rattle.std.proofs.Common.{length, ap, subst, map, take, ◌∙◌, replicate, ◌≡◌, IfOk}
-use Rattle.ptk_words_parted.specs.Parts.{filled}
-use Rattle.ptk_threads_slots.specs.declared.link.Ends.{Ends}
-use Rattle.ptk_threads_slots.specs.Links.{no_ends}
+use Rattle.ptk_words.specs.Parts.{filled}
+use Rattle.ptk_threads.specs.declared.link.Ends.{Ends}
+use Rattle.ptk_threads.specs.Links.{no_ends}
 use Rattle.ptk_threads.proofs.Linked.{taken_same}
 use Rattle.ptk_threads.proofs.slot_table.empty_ends.Goals as goal
 

@@ -1,5 +1,5 @@
 use Rattle.std.proofs.Common.{◌≡◌, drop, leb}
-use Rattle.ptk_words_windows.specs.WindowFaults.{some_pair}
+use Rattle.ptk_words_model.specs.WindowFaults.{some_pair}
 use Rattle.ptk_window.proofs.faults.any_not_later.Given as goal
 
 abbrev pub invariant-loop-index : goal.invariant-loop-index

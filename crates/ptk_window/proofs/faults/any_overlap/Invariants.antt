@@ -1,5 +1,5 @@
 use Rattle.std.proofs.Common.{◌≡◌, drop}
-use Rattle.ptk_words_windows.specs.WindowFaults.{some_pair, are_overlapping}
+use Rattle.ptk_words_model.specs.WindowFaults.{some_pair, are_overlapping}
 use Rattle.ptk_window.proofs.faults.any_overlap.Given as goal
 
 abbrev pub invariant-loop-index : goal.invariant-loop-index

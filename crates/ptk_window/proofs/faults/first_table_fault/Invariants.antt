@@ -1,5 +1,5 @@
 use Rattle.std.proofs.Common.{◌≡◌, drop}
-use Rattle.ptk_words_windows.specs.WindowFaults.{first_fault, window_fault}
+use Rattle.ptk_words_model.specs.WindowFaults.{first_fault, window_fault}
 use Rattle.ptk_window.proofs.faults.first_table_fault.Given as goal
 
 abbrev pub invariant-loop-stage : goal.invariant-loop-stage

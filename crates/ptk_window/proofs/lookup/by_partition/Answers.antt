@@ -1,6 +1,6 @@
 use Rattle.std.proofs.Common.{◌≡◌, rules, IsSortedByKey, nat_cmp, sym, subst, List}
 use Rattle.std.proofs.lemmas.List.Sorted.{answers_always, ties_still_rise, IsNonDecreasingBy-from_sort_by_key}
-use Rattle.ptk_words_windows.specs.declared.window.Window.{Window}
+use Rattle.ptk_words_model.specs.declared.window.Window.{Window}
 use Rattle.ptk_window.proofs.lookup.by_partition.Goals as goal
 
 pub returns-clause-groups : goal.returns-clause-groups

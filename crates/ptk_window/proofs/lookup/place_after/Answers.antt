@@ -2,7 +2,7 @@ use Rattle.std.proofs.Common.{◌≡◌, get_or, eqb-true, arith, rules, sym, su
 use Rattle.std.proofs.lemmas.Bool.{eqb-false}
 use Rattle.std.proofs.lemmas.List.{get_or_default}
 use Rattle.std.proofs.lemmas.List.Sorted.{IsPartitionPoint-from_clause}
-use Rattle.ptk_words_windows.specs.declared.window.Window.{Window}
+use Rattle.ptk_words_model.specs.declared.window.Window.{Window}
 use Rattle.ptk_window.specs.Order.{is_past}
 use Rattle.ptk_window.proofs.Searches.{past_first, none_after, found_first}
 use Rattle.ptk_window.proofs.lookup.place_after.Goals as goal

@@ -1,7 +1,7 @@
 use Rattle.std.proofs.Common.{◌≡◌, ◌+◌, ◌≤◌, ◌∙◌, sym, ap, arith, List, Option, None, option_map}
 use Rattle.std.specs.Prelude.{slice_get}
 use Rattle.ptk_words.specs.Names.{Tick}
-use Rattle.ptk_words_parted.specs.Parts.{part_of}
+use Rattle.ptk_words.specs.Parts.{part_of}
 use Rattle.ptk_words_sync_invariant.specs.Withdrawal.{Expiry}
 use Rattle.ptk_words_sync_invariant.specs.Expiries.{next_expiry}
 use Rattle.ptk_clock.specs.declared.threads.PartitionSlots.{PartitionSlots}

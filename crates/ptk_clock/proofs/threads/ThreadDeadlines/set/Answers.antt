@@ -2,7 +2,7 @@ use Rattle.std.proofs.Common.{◌≡◌, [], false, ◌∙◌, sym, ap, rules}
 use Rattle.std.specs.Option.{is_some}
 use Rattle.std.specs.Prelude.{slice_set}
 use Rattle.std.proofs.lemmas.List.{set-get_or}
-use Rattle.ptk_words_parted.specs.Parts.{part_of}
+use Rattle.ptk_words.specs.Parts.{part_of}
 use Rattle.ptk_clock.proofs.LeastDeadlines.{none_set}
 use Rattle.ptk_clock.proofs.threads.ThreadDeadlines.set.Goals as goal
 

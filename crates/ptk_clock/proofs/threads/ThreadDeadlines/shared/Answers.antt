@@ -1,6 +1,6 @@
 use Rattle.std.proofs.Common.{◌<◌, ◌≡◌, List, Option, length, subst}
 use Rattle.ptk_words.specs.Names.{Tick}
-use Rattle.ptk_words_parted.specs.Parts.{part_of}
+use Rattle.ptk_words.specs.Parts.{part_of}
 use Rattle.ptk_clock.specs.BySlot.{deadlines_from}
 use Rattle.ptk_clock.specs.ByThread.{first_slot}
 use Rattle.ptk_clock.proofs.ByThread.{read_from}

@@ -1,5 +1,5 @@
 use Rattle.std.proofs.Common.{◌<◌, length, sym, subst}
-use Rattle.ptk_words_instructions.specs.Instructions.{effect_at}
+use Rattle.ptk_words_model.specs.Instructions.{effect_at}
 use Rattle.ptk_gate_steps.specs.Instructions.{after_instruction}
 use Rattle.ptk_gate_pools.specs.Kept.{Kept}
 use Rattle.ptk_gate_pools.specs.Held.{all_of}

@@ -1,5 +1,5 @@
 use Rattle.std.proofs.Common.{◌≡◌, ◌∙◌, ap, sym, subst}
-use Rattle.ptk_words_batches.specs.Quiet.{IsQuiet}
+use Rattle.ptk_words_laws.specs.Quiet.{IsQuiet}
 use Rattle.ptk_gate_pools.specs.Held.{Seen, seen}
 use Rattle.ptk_gate.proofs.tables.Tables.quiet_until.Goals as goal
 

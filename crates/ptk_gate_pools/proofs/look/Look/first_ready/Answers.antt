@@ -1,5 +1,5 @@
 use Rattle.std.proofs.Common.{◌≡◌, ◌∙◌, ap, sym, subst}
-use Rattle.ptk_words_parted.specs.Parts.{part_of}
+use Rattle.ptk_words.specs.Parts.{part_of}
 use Rattle.ptk_words_model.specs.Schedule.{first_ready}
 use Rattle.ptk_gate_pools.specs.Kept.{AreInUse}
 use Rattle.ptk_gate_pools.specs.Held.{Seen, seen}

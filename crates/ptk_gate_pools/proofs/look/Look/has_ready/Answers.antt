@@ -1,6 +1,6 @@
 use Rattle.std.proofs.Common.{◌≡◌, ◌∙◌, ap, length}
 use Rattle.std.specs.Prelude.{nat_lt}
-use Rattle.ptk_words_parted.specs.Parts.{part_of}
+use Rattle.ptk_words.specs.Parts.{part_of}
 use Rattle.ptk_threads.specs.Table.{stored_of}
 use Rattle.ptk_gate_pools.specs.Held.{Seen, seen}
 use Rattle.ptk_gate_pools.specs.Pooled.{kept_of}

@@ -1,6 +1,6 @@
 use Rattle.std.specs.Prelude.{None}
 use Rattle.ptk_words.specs.Pools.{pool_set}
-use Rattle.ptk_words_parted.specs.Parts.{part_of}
+use Rattle.ptk_words.specs.Parts.{part_of}
 use Rattle.ptk_gate_pools.proofs.Changed.{conditions_pooled, conditions_held}
 use Rattle.ptk_gate_pools.proofs.pools.Pools.destroy_condition.Goals as goal
 

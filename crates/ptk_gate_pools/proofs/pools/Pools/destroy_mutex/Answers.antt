@@ -2,7 +2,7 @@ use Rattle.std.proofs.Common.{◌≡◌, List, [], false, refl, sym, subst}
 use Rattle.std.specs.Prelude.{Option, None}
 use Rattle.std.proofs.Math.ListN.{set}
 use Rattle.ptk_words.specs.Pools.{pool_get, pool_set}
-use Rattle.ptk_words_parted.specs.Parts.{part_of}
+use Rattle.ptk_words.specs.Parts.{part_of}
 use Rattle.ptk_words_model.specs.State.{Mutex}
 use Rattle.ptk_words_model.specs.Mutex.{mutex_at, waiters_of}
 use Rattle.ptk_words_model.specs.MutexCalls.{is_locked}

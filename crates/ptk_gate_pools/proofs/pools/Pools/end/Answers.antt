@@ -2,7 +2,7 @@ use Rattle.ptk_words.specs.Threads.{left_at_end}
 use Rattle.ptk_gate_pools.proofs.Changed.{left_pooled, again_held}
 use Rattle.std.proofs.Common.{ap}
 use Rattle.ptk_words.specs.Pools.{pool_left}
-use Rattle.ptk_words_parted.specs.Parts.{part_of}
+use Rattle.ptk_words.specs.Parts.{part_of}
 use Rattle.ptk_threads.specs.Table.{ThreadTable}
 use Rattle.ptk_gate_pools.proofs.pools.Pools.end.Goals as goal
 

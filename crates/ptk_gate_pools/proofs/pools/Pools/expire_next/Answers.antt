@@ -1,13 +1,13 @@
 use Rattle.std.proofs.Common.{◌≡◌, ◌∙◌, List, ap, sym, subst, length}
 use Rattle.std.specs.Prelude.{Option, None, is_some, option_map}
 use Rattle.ptk_words.specs.declared.threads.Thread.{Thread}
-use Rattle.ptk_words_parted.specs.Parts.{part_of}
+use Rattle.ptk_words.specs.Parts.{part_of}
 use Rattle.ptk_words_model.specs.State.{Part}
 use Rattle.ptk_words_model.specs.Withdrawal.{Expiry, deadlines_of}
 use Rattle.ptk_words_sync_invariant.specs.Expiries.{next_expiry}
 use Rattle.ptk_gate_pools.specs.Kept.{put_part, part_at, deadlines_in}
 use Rattle.ptk_gate_pools.specs.Expired.{after_one_expiry}
-use Rattle.ptk_gate_waits.specs.Timeouts.{IsBlocked}
+use Rattle.ptk_cond.specs.Timeouts.{IsBlocked}
 use Rattle.ptk_gate_pools.specs.Held.{Held, held, limits_here}
 use Rattle.ptk_gate_pools.specs.Pooled.{kept_of}
 use Rattle.ptk_gate_pools.proofs.Hands.{held-put}

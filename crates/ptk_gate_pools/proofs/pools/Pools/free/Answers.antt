@@ -2,7 +2,7 @@ use Rattle.std.specs.Prelude.{None}
 use Rattle.ptk_gate_pools.proofs.Changed.{slot_pooled, again_held}
 use Rattle.std.proofs.Common.{ap}
 use Rattle.ptk_words.specs.Pools.{pool_set}
-use Rattle.ptk_words_parted.specs.Parts.{part_of}
+use Rattle.ptk_words.specs.Parts.{part_of}
 use Rattle.ptk_threads.specs.Table.{ThreadTable}
 use Rattle.ptk_gate_pools.proofs.pools.Pools.free.Goals as goal
 

@@ -3,11 +3,11 @@ use Rattle.std.specs.Prelude.{Option, option_and_then}
 use Rattle.ptk_words.specs.Pools.{pool_get, pool_changed}
 use Rattle.ptk_words.specs.declared.threads.Thread.{Thread}
 use Rattle.ptk_words.proofs.Options.{none_if_not_some}
-use Rattle.ptk_words_parted.specs.Parts.{part_of}
+use Rattle.ptk_words.specs.Parts.{part_of}
 use Rattle.ptk_threads.specs.Table.{with_wait}
 use Rattle.ptk_words.specs.Threads.{mutex_of_wait}
 use Rattle.ptk_gate_pools.proofs.Changed.{kept_pooled, wait_pooled, changed_held, again_held}
-use Rattle.ptk_gate_boot.specs.Rosters.{Rostered}
+use Rattle.ptk_gate_memory.specs.Rosters.{Rostered}
 use Rattle.ptk_gate_pools.proofs.pools.Pools.give_wait.Goals as goal
 
 -- neither wait is for a mutex

@@ -1,10 +1,10 @@
 use Rattle.std.proofs.Common.{◌≡◌, List, [], ◌∙◌, ap, refl}
 use Rattle.std.specs.Prelude.{Option, Some}
 use Rattle.ptk_words.specs.Pools.{least_free, pool_set}
-use Rattle.ptk_words_parted.specs.Parts.{part_of}
+use Rattle.ptk_words.specs.Parts.{part_of}
 use Rattle.ptk_words_model.specs.State.{Condition}
-use Rattle.ptk_gate_boot.specs.Waiters.{condition_of}
-use Rattle.ptk_gate_waits.specs.Pool.{with_new_condition}
+use Rattle.ptk_gate_memory.specs.Waiters.{condition_of}
+use Rattle.ptk_cond.specs.Pool.{with_new_condition}
 use Rattle.ptk_gate_pools.specs.Held.{Held}
 use Rattle.ptk_gate_pools.proofs.Conditional.{condition_opened}
 use Rattle.ptk_gate_pools.proofs.Changed.{conditions_pooled, conditions_held}

@@ -2,10 +2,10 @@ use Rattle.std.proofs.Common.{◌≡◌, List, ◌∙◌, ap, refl}
 use Rattle.std.specs.Prelude.{Option, Some}
 use Rattle.std.proofs.Math.ListN.{set}
 use Rattle.ptk_words.specs.Pools.{least_free, pool_set}
-use Rattle.ptk_words_parted.specs.Parts.{part_of}
+use Rattle.ptk_words.specs.Parts.{part_of}
 use Rattle.ptk_words_model.specs.State.{Mutex}
 use Rattle.ptk_words_model.specs.Mutex.{new_mutex}
-use Rattle.ptk_gate_waits.specs.LockPool.{with_new_mutex}
+use Rattle.ptk_cond.specs.LockPool.{with_new_mutex}
 use Rattle.ptk_gate_pools.specs.Held.{Held}
 use Rattle.ptk_gate_pools.proofs.Vacant.{opened_at, stored_opened}
 use Rattle.ptk_gate_pools.proofs.Changed.{mutexes_pooled, mutexes_held}

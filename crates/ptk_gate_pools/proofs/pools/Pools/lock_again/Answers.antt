@@ -1,7 +1,7 @@
 use Rattle.ptk_words.specs.declared.threads.Wait.TheVariants.{RelockWait}
 use Rattle.ptk_words_model.specs.Mutex.{mutex_at, relock_move, after_move}
 use Rattle.ptk_words_model.specs.State.{Locks}
-use Rattle.ptk_gate_waits.specs.LockTables.{locks_by}
+use Rattle.ptk_cond.specs.LockTables.{locks_by}
 use Rattle.ptk_gate_pools.proofs.Changed.{locks_pooled, locks_held}
 use Rattle.ptk_gate_pools.proofs.pools.Pools.lock_again.Goals as goal
 

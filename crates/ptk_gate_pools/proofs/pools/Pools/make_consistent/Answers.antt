@@ -1,7 +1,7 @@
 use Rattle.ptk_words.specs.declared.mutexes.Soundness.TheVariants.{Consistent}
 use Rattle.ptk_words_model.specs.Mutex.{with_soundness}
 use Rattle.ptk_words_model.specs.State.{Locks}
-use Rattle.ptk_gate_waits.specs.LockTables.{locks_by}
+use Rattle.ptk_cond.specs.LockTables.{locks_by}
 use Rattle.ptk_gate_pools.proofs.Changed.{locks_pooled, locks_held}
 use Rattle.ptk_gate_pools.proofs.pools.Pools.make_consistent.Goals as goal
 

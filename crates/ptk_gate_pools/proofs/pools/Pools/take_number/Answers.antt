@@ -4,7 +4,7 @@ use Rattle.std.specs.Prelude.{Some}
 use Rattle.ptk_words.specs.Pools.{least_free, pool_set}
 use Rattle.ptk_gate_pools.proofs.Changed.{slot_pooled, again_held}
 use Rattle.ptk_gate_pools.proofs.Numbers.{created_at}
-use Rattle.ptk_words_parted.specs.Parts.{part_of}
+use Rattle.ptk_words.specs.Parts.{part_of}
 use Rattle.ptk_threads.specs.Table.{ThreadTable}
 use Rattle.ptk_gate_pools.proofs.pools.Pools.take_number.Goals as goal
 

@@ -2,10 +2,10 @@ use Rattle.std.proofs.Common.{◌≡◌, List, false, refl, sym, subst}
 use Rattle.std.specs.Prelude.{Option}
 use Rattle.std.proofs.Math.ListN.{set}
 use Rattle.ptk_words.specs.Pools.{pool_get}
-use Rattle.ptk_words_parted.specs.Parts.{part_of}
+use Rattle.ptk_words.specs.Parts.{part_of}
 use Rattle.ptk_words_model.specs.State.{Mutex, locks_of}
 use Rattle.ptk_words_model.specs.Mutex.{mutex_at, after_take}
-use Rattle.ptk_mutex_priorities.specs.Plain.{is_raising_at}
+use Rattle.ptk_roster.specs.Plain.{is_raising_at}
 use Rattle.ptk_gate_pools.specs.Held.{Held}
 use Rattle.ptk_gate_pools.proofs.PlainMutexes.{stored_taken}
 use Rattle.ptk_gate_pools.proofs.Changed.{mutexes_pooled, mutexes_held}

@@ -2,7 +2,7 @@ use Rattle.std.specs.Prelude.{None}
 use Rattle.ptk_words.specs.declared.threads.Wait.TheVariants.{MutexWait}
 use Rattle.ptk_words_model.specs.Mutex.{mutex_at, trylock_move, after_move}
 use Rattle.ptk_words_model.specs.State.{Locks}
-use Rattle.ptk_gate_waits.specs.LockTables.{locks_by}
+use Rattle.ptk_cond.specs.LockTables.{locks_by}
 use Rattle.ptk_gate_pools.proofs.Changed.{locks_pooled, locks_held}
 use Rattle.ptk_gate_pools.proofs.pools.Pools.trylock.Goals as goal
 

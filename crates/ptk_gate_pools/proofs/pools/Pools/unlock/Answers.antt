@@ -1,6 +1,6 @@
 use Rattle.ptk_words_model.specs.Mutex.{after_unlock}
 use Rattle.ptk_words_model.specs.State.{Locks}
-use Rattle.ptk_gate_waits.specs.LockTables.{locks_by}
+use Rattle.ptk_cond.specs.LockTables.{locks_by}
 use Rattle.ptk_gate_pools.proofs.Changed.{locks_pooled, locks_held}
 use Rattle.ptk_gate_pools.proofs.pools.Pools.unlock.Goals as goal
 

@@ -4,7 +4,7 @@ use Rattle.ptk_words_model.specs.declared.LockMove.{LockMove}
 use Rattle.ptk_words_model.specs.declared.LockMove.TheVariants.{Waits}
 use Rattle.ptk_words_model.specs.Mutex.{mutex_at, lock_move, after_move}
 use Rattle.ptk_words_model.specs.State.{Locks}
-use Rattle.ptk_gate_waits.specs.LockTables.{locks_by, put_locks}
+use Rattle.ptk_cond.specs.LockTables.{locks_by, put_locks}
 use Rattle.ptk_gate_pools.specs.Held.{Held}
 use Rattle.ptk_gate_pools.proofs.Changed.{locks_pooled, locks_held}
 use Rattle.ptk_gate_pools.proofs.pools.Pools.wait_for.Goals as goal

@@ -1,7 +1,7 @@
 use Rattle.ptk_gate_pools.specs.Held.{Held, limits_here}
 use Rattle.std.proofs.Common.{ap, sym, subst}
 use Rattle.ptk_words_model.specs.Condition.{after_condition_wait}
-use Rattle.ptk_gate_waits.specs.Tables.{syncs_by, IsAwake}
+use Rattle.ptk_cond.specs.Tables.{syncs_by, IsAwake}
 use Rattle.ptk_gate_pools.proofs.Changed.{tables_pooled, tables_held}
 use Rattle.ptk_gate_pools.proofs.Synced.{synced_is, awake_of}
 use Rattle.ptk_gate_pools.proofs.pools.Pools.wait_on.Goals as goal

@@ -1,7 +1,7 @@
 use Rattle.std.specs.Prelude.{None}
 use Rattle.ptk_words_model.specs.State.{Syncs}
 use Rattle.ptk_words_model.specs.Condition.{after_unblock}
-use Rattle.ptk_gate_waits.specs.Tables.{syncs_by}
+use Rattle.ptk_cond.specs.Tables.{syncs_by}
 use Rattle.ptk_gate_pools.proofs.Changed.{tables_pooled, tables_held}
 use Rattle.ptk_gate_pools.proofs.pools.Pools.withdraw_from_condition.Goals as goal
 

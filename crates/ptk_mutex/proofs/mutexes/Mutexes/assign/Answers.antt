@@ -3,7 +3,7 @@ use Rattle.ptk_mutex.specs.Moves.{after_assignment}
 use Rattle.ptk_mutex.specs.Tables.{locks_by}
 use Rattle.ptk_mutex.proofs.Locked.{locked_assignment}
 use Rattle.ptk_mutex.proofs.Steps.{put_ready}
-use Rattle.ptk_syncs.specs.Rosters.{Rostered}
+use Rattle.ptk_roster.specs.Rosters.{Rostered}
 use Rattle.ptk_mutex.proofs.Sound.{sound_assigned}
 use Rattle.ptk_mutex.proofs.mutexes.Mutexes.assign.Goals as goal
 

@@ -1,5 +1,5 @@
 use Rattle.std.proofs.Common.{sym, subst}
-use Rattle.ptk_syncs.specs.Rosters.{Rostered}
+use Rattle.ptk_roster.specs.Rosters.{Rostered}
 use Rattle.ptk_mutex.proofs.Ready.{ready_destroy}
 use Rattle.ptk_mutex.proofs.Sound.{AreReadyAt, sound_destroy}
 use Rattle.ptk_mutex.proofs.mutexes.Mutexes.destroy.Goals as goal

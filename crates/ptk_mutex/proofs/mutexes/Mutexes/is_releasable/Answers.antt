@@ -1,5 +1,5 @@
 use Rattle.std.proofs.Common.{arith}
-use Rattle.ptk_mutex_priorities.proofs.Bare.{bares}
+use Rattle.ptk_roster.proofs.Bare.{bares}
 use Rattle.ptk_mutex.proofs.mutexes.Mutexes.is_releasable.Goals as goal
 
 pub returns-in-Some-clause-told : goal.returns-in-Some-clause-told

@@ -5,7 +5,7 @@ use Rattle.ptk_words_model.specs.State.{Locks}
 use Rattle.ptk_words_model.specs.Mutex.{mutex_at, relock_move, after_move}
 use Rattle.ptk_mutex.specs.Tables.{locks_by, put_locks}
 use Rattle.ptk_mutex.proofs.Steps.{locked_move, put_ready}
-use Rattle.ptk_syncs.specs.Rosters.{Rostered}
+use Rattle.ptk_roster.specs.Rosters.{Rostered}
 use Rattle.ptk_mutex.proofs.Apart.{relock_owned}
 use Rattle.ptk_mutex.proofs.Sound.{sound_made}
 use Rattle.ptk_mutex.proofs.mutexes.Mutexes.lock_again.Goals as goal

@@ -1,8 +1,8 @@
 use Rattle.std.proofs.Common.{◌∙◌, ap}
 use Rattle.std.specs.List.{list_any}
-use Rattle.ptk_words_parted.specs.Parts.{part_of}
+use Rattle.ptk_words.specs.Parts.{part_of}
 use Rattle.ptk_words_model.specs.Mutex.{is_raising_for}
-use Rattle.ptk_mutex_priorities.proofs.Bare.{owns_raising-bare}
+use Rattle.ptk_roster.proofs.Bare.{owns_raising-bare}
 use Rattle.ptk_mutex.proofs.mutexes.Mutexes.owns_raising.Goals as goal
 
 pub returns : goal.returns

@@ -1,11 +1,11 @@
 use Rattle.std.proofs.Common.{refl, sym, ◌∙◌, ap}
 use Rattle.ptk_words.specs.declared.threads.Wait.TheVariants.{RelockWait}
-use Rattle.ptk_words_parted.specs.Parts.{part_of}
+use Rattle.ptk_words.specs.Parts.{part_of}
 use Rattle.ptk_words_model.specs.declared.LockMove.{LockMove}
 use Rattle.ptk_words_model.specs.State.{Locks}
 use Rattle.ptk_words_model.specs.Mutex.{mutex_at, relock_move, after_relock, after_relock_move}
-use Rattle.ptk_threads_slots.specs.Links.{links_of}
-use Rattle.ptk_syncs.specs.Rosters.{Rostered}
+use Rattle.ptk_threads.specs.Links.{links_of}
+use Rattle.ptk_roster.specs.Rosters.{Rostered}
 use Rattle.ptk_mutex.specs.Tables.{locks_by, put_locks, without_condition_waiter}
 use Rattle.ptk_mutex.proofs.Passed.{passed_free, sound_passed}
 use Rattle.ptk_mutex.proofs.Raised.{block_before, block_next, block_put, inheritor-read, stored_visited}

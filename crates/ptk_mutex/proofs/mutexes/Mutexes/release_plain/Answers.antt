@@ -1,5 +1,5 @@
 use Rattle.std.proofs.Common.{sym, subst}
-use Rattle.ptk_syncs.specs.Rosters.{Rostered}
+use Rattle.ptk_roster.specs.Rosters.{Rostered}
 use Rattle.ptk_mutex.proofs.Unraised.{ready_freed}
 use Rattle.ptk_mutex.proofs.Sound.{AreReadyAt, sound_freed}
 use Rattle.ptk_mutex.proofs.mutexes.Mutexes.release_plain.Goals as goal

@@ -4,8 +4,9 @@ use Rattle.ptk_words_model.specs.State.{Locks}
 use Rattle.ptk_words_model.specs.Mutex.{mutex_at, relock_move, after_relock, after_relock_move}
 use Rattle.ptk_mutex.specs.Tables.{locks_by, put_locks}
 use Rattle.ptk_mutex.proofs.Steps.{put_ready, locked_relock}
-use Rattle.ptk_syncs.specs.Rosters.{Rostered}
+use Rattle.ptk_roster.specs.Rosters.{Rostered}
 use Rattle.ptk_mutex.proofs.Sound.{sound_relock}
+use Rattle.ptk_mutex.proofs.WokenMoves.{woken_relock}
 use Rattle.ptk_mutex.proofs.mutexes.Mutexes.relock.Goals as goal
 
 pub returns-clause-roster : goal.returns-clause-roster
@@ -24,3 +25,8 @@ pub returns-clause-sound : goal.returns-clause-sound
 returns-clause-sound c = λ sound.
     sound_relock c.args.p c.args.t c.args.m c.args.reply c.args.roster.now c.make_relock-self.new.roster c.requires.free
     (record { before = c.requires.ready; moved = returns-clause-roster c; after = returns-clause-ready c }) sound
+
+pub returns-clause-woken : goal.returns-clause-woken
+returns-clause-woken c = λ waits.
+    c.woken_by-woken.ensures
+    ∙ woken_relock c.relock_move-made.result c.args.p c.args.t c.args.m c.args.reply c.args.roster.now c.make_relock-self.new.roster c.requires.ready.part.of_threads waits c.make_relock-self.ensures.roster

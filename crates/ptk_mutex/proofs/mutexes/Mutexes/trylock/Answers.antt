@@ -7,7 +7,7 @@ use Rattle.ptk_words_model.specs.Mutex.{mutex_at, trylock_move, after_move}
 use Rattle.ptk_mutex.specs.Moves.{after_trylock}
 use Rattle.ptk_mutex.specs.Tables.{locks_by, put_locks}
 use Rattle.ptk_mutex.proofs.Steps.{trylock_counts, locked_move, put_ready}
-use Rattle.ptk_syncs.specs.Rosters.{Rostered}
+use Rattle.ptk_roster.specs.Rosters.{Rostered}
 use Rattle.ptk_mutex.proofs.Apart.{trylock_owned}
 use Rattle.ptk_mutex.proofs.Sound.{sound_made}
 use Rattle.ptk_mutex.proofs.mutexes.Mutexes.trylock.Goals as goal

@@ -1,9 +1,9 @@
 use Rattle.std.proofs.Common.{◌≤◌, length, sym, ◌∙◌, ap, arith}
 use Rattle.std.specs.Prelude.{option_map}
 use Rattle.ptk_words.specs.Pools.{is_in}
-use Rattle.ptk_threads_slots.specs.declared.link.Link.{Link}
-use Rattle.ptk_threads_slots.specs.Links.{links_of, place_of}
-use Rattle.ptk_threads_slots.proofs.Slots.{links_count}
+use Rattle.ptk_threads.specs.declared.link.Link.{Link}
+use Rattle.ptk_threads.specs.Links.{links_of, place_of}
+use Rattle.ptk_threads.proofs.LinkSlots.{links_count}
 use Rattle.ptk_ready.specs.Entries.{is_ready_place}
 use Rattle.ptk_ready.proofs.Ready.{in_entries}
 use Rattle.ptk_ready.proofs.Lists.{line_same}

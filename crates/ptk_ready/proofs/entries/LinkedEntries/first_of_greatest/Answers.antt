@@ -1,9 +1,9 @@
 use Rattle.std.proofs.Common.{◌<◌, length, sym, ◌∙◌, ap, subst, arith}
 use Rattle.std.specs.Prelude.{None}
 use Rattle.std.proofs.lemmas.List.{get_or_default}
-use Rattle.ptk_threads_slots.specs.declared.link.Ends.{Ends}
-use Rattle.ptk_threads_slots.specs.Links.{links_of, no_ends, first_or, queues}
-use Rattle.ptk_threads_slots.proofs.Lists.{list_at}
+use Rattle.ptk_threads.specs.declared.link.Ends.{Ends}
+use Rattle.ptk_threads.specs.Links.{links_of, no_ends, first_or, queues}
+use Rattle.ptk_threads.proofs.Lists.{list_at}
 use Rattle.ptk_ready.specs.Bits.{IsGreatestBit}
 use Rattle.ptk_ready.proofs.Firsts.{first_found, none_found}
 use Rattle.ptk_ready.proofs.entries.LinkedEntries.first_of_greatest.Goals as goal

@@ -1,6 +1,6 @@
 use Rattle.std.proofs.Common.{◌≡◌, ◌≤◌, length, ◌∙◌, ap, sym, subst, rules, arith}
-use Rattle.ptk_threads_slots.specs.Links.{links_of}
-use Rattle.ptk_threads_slots.proofs.Slots.{links_count}
+use Rattle.ptk_threads.specs.Links.{links_of}
+use Rattle.ptk_threads.proofs.LinkSlots.{links_count}
 use Rattle.ptk_ready.specs.Entries.{entries, AreStamps}
 use Rattle.ptk_ready.proofs.Ranks.{numbered_anew}
 use Rattle.ptk_ready.proofs.entries.LinkedEntries.number_anew.Goals as goal

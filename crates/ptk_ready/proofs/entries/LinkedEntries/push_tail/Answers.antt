@@ -1,9 +1,9 @@
 use Rattle.std.proofs.Common.{◌≡◌, ℕ, suc, ◌-◌, ◌<◌, ◌≤◌, true, length, refl, ◌∙◌, ap, subst, set, rules, arith, ◌<ℤ◌, w64, to_z, of_z, FitsSigned, lit<}
 use Rattle.std.proofs.lemmas.Int.{to_z-of_z}
 use Rattle.ptk_threads.specs.Table.{stored_of}
-use Rattle.ptk_threads_slots.specs.declared.link.QueueName.TheVariants.{Ready}
-use Rattle.ptk_threads_slots.specs.Links.{links_of}
-use Rattle.ptk_threads_slots.proofs.Slots.{links_count}
+use Rattle.ptk_threads.specs.declared.link.QueueName.TheVariants.{Ready}
+use Rattle.ptk_threads.specs.Links.{links_of}
+use Rattle.ptk_threads.proofs.LinkSlots.{links_count}
 use Rattle.ptk_ready.specs.Bits.{IsBitChanged}
 use Rattle.ptk_ready.specs.Entries.{is_ready, stamp_of}
 use Rattle.ptk_ready.proofs.Lists.{sound_line}

@@ -1,9 +1,9 @@
 use Rattle.std.proofs.Common.{◌≡◌, ℕ, suc, ◌-◌, ◌<◌, ◌≤◌, true, length, sym, ◌∙◌, ap, subst, rules, arith, w64, to_z, of_z, FitsSigned}
 use Rattle.std.specs.Prelude.{Some, is_some, option_map, ◌||◌}
 use Rattle.std.proofs.lemmas.Int.{to_z-of_z}
-use Rattle.ptk_threads_slots.specs.declared.link.Link.{Link}
-use Rattle.ptk_threads_slots.specs.Links.{links_of, place_of}
-use Rattle.ptk_threads_slots.proofs.Slots.{links_count}
+use Rattle.ptk_threads.specs.declared.link.Link.{Link}
+use Rattle.ptk_threads.specs.Links.{links_of, place_of}
+use Rattle.ptk_threads.proofs.LinkSlots.{links_count}
 use Rattle.ptk_ready.specs.Bits.{has_bit, IsBitChanged}
 use Rattle.ptk_ready.specs.Entries.{is_ready_place}
 use Rattle.ptk_ready.proofs.Filed.{first_later}

@@ -1,8 +1,8 @@
 use Rattle.std.proofs.Common.{◌≡◌, ℕ, ◌≤◌, true, length, ◌∙◌, ap, subst, arith}
 use Rattle.std.specs.Prelude.{Some, is_some, option_map, ◌||◌}
-use Rattle.ptk_threads_slots.specs.declared.link.Link.{Link}
-use Rattle.ptk_threads_slots.specs.Links.{links_of, place_of}
-use Rattle.ptk_threads_slots.proofs.Slots.{links_count}
+use Rattle.ptk_threads.specs.declared.link.Link.{Link}
+use Rattle.ptk_threads.specs.Links.{links_of, place_of}
+use Rattle.ptk_threads.proofs.LinkSlots.{links_count}
 use Rattle.ptk_ready.specs.Bits.{has_bit, IsBitChanged}
 use Rattle.ptk_ready.specs.Entries.{is_ready_place}
 use Rattle.ptk_ready.proofs.Calls.{member_ready, removed_lists}

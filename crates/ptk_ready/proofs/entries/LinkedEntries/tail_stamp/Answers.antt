@@ -1,6 +1,6 @@
 use Rattle.std.proofs.Common.{rules, ◌≡◌, refl, pos, ◌+ℤ◌, ◌<ℤ◌, FitsSigned, to_z, of_z, w64, arith}
 use Rattle.std.proofs.lemmas.Int.{ints}
-use Rattle.ptk_threads_slots.specs.Links.{links_of}
+use Rattle.ptk_threads.specs.Links.{links_of}
 use Rattle.ptk_ready.specs.Entries.{AreStamps}
 use Rattle.ptk_ready.proofs.Ranks.{longer}
 use Rattle.ptk_ready.proofs.entries.LinkedEntries.tail_stamp.Goals as goal

@@ -3,11 +3,11 @@ use Rattle.std.specs.Prelude.{Option, IfSome}
 use Rattle.std.proofs.Math.ListN.{set}
 use Rattle.std.proofs.lemmas.List.{set-get_or}
 use Rattle.ptk_words.specs.Pools.{is_in}
-use Rattle.ptk_words_parted.specs.Parts.{part_of}
+use Rattle.ptk_words.specs.Parts.{part_of}
 use Rattle.ptk_threads.specs.Table.{ThreadTable, stored_of}
 use Rattle.ptk_threads.specs.Queues.{IsUnqueued, with_last}
-use Rattle.ptk_threads_slots.specs.declared.link.QueueName.{QueueName}
-use Rattle.ptk_threads_slots.specs.Links.{links_of, place_of, queues}
+use Rattle.ptk_threads.specs.declared.link.QueueName.{QueueName}
+use Rattle.ptk_threads.specs.Links.{links_of, place_of, queues}
 use Rattle.ptk_ready.specs.Queues.{waiters_of, with_out_of}
 use Rattle.ptk_ready.specs.Lines.{line_of}
 use Rattle.ptk_ready.specs.Partitions.{lines_by}

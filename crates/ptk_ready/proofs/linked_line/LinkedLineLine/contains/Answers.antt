@@ -1,7 +1,7 @@
 use Rattle.std.proofs.Common.{refl, ◌∙◌, ap}
 use Rattle.ptk_words.specs.Pools.{is_in}
-use Rattle.ptk_words_parted.specs.Parts.{part_of}
-use Rattle.ptk_threads_slots.specs.Links.{links_of, queues}
+use Rattle.ptk_words.specs.Parts.{part_of}
+use Rattle.ptk_threads.specs.Links.{links_of, queues}
 use Rattle.ptk_ready.proofs.Partitions.{read}
 use Rattle.ptk_ready.proofs.linked_line.LinkedLineLine.contains.Goals as goal
 

@@ -1,8 +1,8 @@
 use Rattle.std.proofs.Common.{◌∙◌, ap, lit<}
 use Rattle.ptk_words.specs.Pools.{first_of_greatest}
-use Rattle.ptk_words_parted.specs.Parts.{part_of}
+use Rattle.ptk_words.specs.Parts.{part_of}
 use Rattle.ptk_threads.specs.Table.{stored_of}
-use Rattle.ptk_threads_slots.specs.Links.{links_of, queues}
+use Rattle.ptk_threads.specs.Links.{links_of, queues}
 use Rattle.ptk_ready.specs.Lines.{line_of}
 use Rattle.ptk_ready.proofs.Partitions.{read}
 use Rattle.ptk_ready.proofs.linked_line.LinkedLineLine.first_of_greatest.Goals as goal

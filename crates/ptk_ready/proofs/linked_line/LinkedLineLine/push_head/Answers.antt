@@ -1,8 +1,8 @@
 use Rattle.std.proofs.Common.{◌≡◌, ℕ, ◌<◌, ◌≤◌, List, ◌∷◌, drop, sym, ◌∙◌, ap, subst, lit<}
-use Rattle.ptk_words_parted.specs.Parts.{part_of}
+use Rattle.ptk_words.specs.Parts.{part_of}
 use Rattle.ptk_threads.specs.Table.{ThreadTable, stored_of}
 use Rattle.ptk_threads.specs.Queues.{IsUnqueued, with_first}
-use Rattle.ptk_threads_slots.specs.Links.{links_of, queues}
+use Rattle.ptk_threads.specs.Links.{links_of, queues}
 use Rattle.ptk_ready.specs.Lines.{line_of}
 use Rattle.ptk_ready.specs.Partitions.{lines_by}
 use Rattle.ptk_ready.proofs.Partitions.{moved, read, slot_of_used, number_of_used}

@@ -1,9 +1,9 @@
 use Rattle.std.proofs.Common.{◌≡◌, refl, sym, ◌∙◌, ap, drop, lit<}
 use Rattle.ptk_words.specs.Pools.{is_in, without}
-use Rattle.ptk_words_parted.specs.Parts.{part_of}
+use Rattle.ptk_words.specs.Parts.{part_of}
 use Rattle.ptk_threads.specs.Table.{ThreadTable}
 use Rattle.ptk_threads.specs.Queues.{with_none}
-use Rattle.ptk_threads_slots.specs.Links.{links_of, queues}
+use Rattle.ptk_threads.specs.Links.{links_of, queues}
 use Rattle.ptk_ready.specs.Lines.{line_of}
 use Rattle.ptk_ready.specs.Partitions.{lines_by}
 use Rattle.ptk_ready.proofs.Partitions.{moved, read, put_back, line_without}

@@ -1,9 +1,9 @@
 use Rattle.std.proofs.Common.{◌≡◌, [], refl, sym, ◌∙◌, ap, subst, drop, set, lit<}
 use Rattle.std.proofs.lemmas.List.{get_or-set_other, set-get_or}
 use Rattle.ptk_words.specs.Pools.{is_in, pool_set}
-use Rattle.ptk_words_parted.specs.Parts.{part_of}
+use Rattle.ptk_words.specs.Parts.{part_of}
 use Rattle.ptk_threads.specs.Table.{ThreadTable, with_queues}
-use Rattle.ptk_threads_slots.specs.Links.{links_of, queues}
+use Rattle.ptk_threads.specs.Links.{links_of, queues}
 use Rattle.ptk_ready.specs.Lines.{line_of, with_refiled, IsFiled}
 use Rattle.ptk_ready.specs.Partitions.{lines_by}
 use Rattle.ptk_ready.proofs.Partitions.{moved, read, put_back, priority_out, stored_here, slot_of_member}

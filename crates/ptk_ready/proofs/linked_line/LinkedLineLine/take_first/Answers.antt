@@ -1,11 +1,11 @@
 use Rattle.std.proofs.Common.{◌≡◌, ℕ, length, refl, sym, ◌∙◌, ap, subst, rules}
 use Rattle.std.specs.Prelude.{Option, option_map}
 use Rattle.ptk_words.specs.Pools.{first_of_greatest, without}
-use Rattle.ptk_words_parted.specs.Parts.{part_of}
+use Rattle.ptk_words.specs.Parts.{part_of}
 use Rattle.ptk_threads.specs.Table.{ThreadTable, stored_of}
 use Rattle.ptk_threads.specs.Queues.{without_first}
-use Rattle.ptk_threads_slots.specs.declared.link.QueueName.TheVariants.{Ready}
-use Rattle.ptk_threads_slots.specs.Links.{place_of}
+use Rattle.ptk_threads.specs.declared.link.QueueName.TheVariants.{Ready}
+use Rattle.ptk_threads.specs.Links.{place_of}
 use Rattle.ptk_ready.specs.declared.entries.LinkedEntries.{LinkedEntries}
 use Rattle.ptk_ready.specs.Bits.{IsGreatestBit}
 use Rattle.ptk_ready.specs.Lines.{line_of, IsFiled}

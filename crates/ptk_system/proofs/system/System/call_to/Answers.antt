@@ -1,5 +1,5 @@
 use Rattle.std.proofs.Common.{◌≡◌, ◌<◌, length, subst, sym, ap, arith}
-use Rattle.ptk_words_windows.specs.Windows.{WindowPlan}
+use Rattle.ptk_words_model.specs.Windows.{WindowPlan}
 use Rattle.ptk_system_machine.specs.Whole.{AreWindowsOf}
 use Rattle.ptk_system.specs.World.{World}
 use Rattle.ptk_system.proofs.Going.{here_going, run_going}

@@ -1,6 +1,6 @@
 use Rattle.std.proofs.Common.{◌≡◌, None, ap, subst, ◌∙◌, arith}
-use Rattle.ptk_words_windows.specs.Windows.{WindowPlan, own_ticks}
-use Rattle.ptk_words_windows.proofs.OwnLaws.{end_none}
+use Rattle.ptk_words_model.specs.Windows.{WindowPlan, own_ticks}
+use Rattle.ptk_words_model.proofs.OwnLaws.{end_none}
 use Rattle.ptk_system.specs.World.{World}
 use Rattle.ptk_system.proofs.Latest.{none_sooner}
 use Rattle.ptk_system.proofs.system.System.first_own.Goals as goal

@@ -1,6 +1,6 @@
 use Rattle.std.proofs.Common.{◌≡◌, ◌+◌, ◌<◌, ◌≤◌, Some, inl, inr, sym, subst, arith}
 use Rattle.std.proofs.lemmas.Bool.{cases_lt}
-use Rattle.ptk_words_batches.specs.Idle.{IsIdle}
+use Rattle.ptk_words_laws.specs.Idle.{IsIdle}
 use Rattle.ptk_system.specs.World.{state_of}
 use Rattle.ptk_system.proofs.Stays.{jump_unseen, next_unseen, stays_jump, stays_next}
 use Rattle.ptk_system.proofs.system.System.stays_until.Goals as goal

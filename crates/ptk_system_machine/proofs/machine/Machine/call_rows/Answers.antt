@@ -1,6 +1,6 @@
 use Rattle.std.proofs.Common.{◌+◌, ◌-◌, sym, subst, arith}
-use Rattle.ptk_words_windows.specs.Windows.{own_ticks}
-use Rattle.ptk_words_batches.specs.Quiet.{IsQuiet}
+use Rattle.ptk_words_model.specs.Windows.{own_ticks}
+use Rattle.ptk_words_laws.specs.Quiet.{IsQuiet}
 use Rattle.ptk_kernel.specs.Kept.{limits_at, part_at}
 use Rattle.ptk_system_machine.specs.Steady.{states_from}
 use Rattle.ptk_system_machine.specs.Whole.{Whole, state_at}

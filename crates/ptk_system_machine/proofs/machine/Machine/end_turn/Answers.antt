@@ -1,10 +1,10 @@
 use Rattle.std.proofs.Common.{◌≡◌, ℕ, ◌+◌, ◌-◌, ◌<◌, ◌≤◌, length, get_or, Some, refl, subst, sym, ap, ◌∙◌, arith}
 use Rattle.std.proofs.Math.ListN.{set}
 use Rattle.ptk_words.specs.declared.faults.Status.{Status}
-use Rattle.ptk_words_windows.specs.Windows.{own_ticks}
+use Rattle.ptk_words_model.specs.Windows.{own_ticks}
 use Rattle.ptk_words_model.specs.Run.{decided, next_from}
-use Rattle.ptk_words_batches.specs.Quiet.{after_ticks}
-use Rattle.ptk_words_batches.specs.Idle.{waiting_from}
+use Rattle.ptk_words_laws.specs.Quiet.{after_ticks}
+use Rattle.ptk_words_laws.specs.Idle.{waiting_from}
 use Rattle.ptk_kernel.specs.Kept.{limits_at, part_at}
 use Rattle.ptk_system_machine.specs.Accounts.{KeptAccount, spent_account}
 use Rattle.ptk_system_machine.specs.Turns.{HasDecided, IsFreeFrom, IsInWindow}

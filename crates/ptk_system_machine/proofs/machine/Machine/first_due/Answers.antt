@@ -1,6 +1,6 @@
 use Rattle.std.proofs.Common.{◌≡◌, ℕ, ◌<◌, ◌≤◌, Some, None, length, refl, ap, subst, ◌∙◌, arith}
 use Rattle.std.specs.Prelude.{MatchOption}
-use Rattle.ptk_words_windows.specs.Windows.{own_ticks}
+use Rattle.ptk_words_model.specs.Windows.{own_ticks}
 use Rattle.ptk_window.specs.declared.near.Turn.{Turn}
 use Rattle.ptk_system_machine.specs.Turns.{ComesFirst, IsInWindow}
 use Rattle.ptk_system_machine.specs.Whole.{Whole, account_at}

@@ -1,5 +1,5 @@
 use Rattle.std.proofs.Common.{◌-◌, ◌<◌, arith}
-use Rattle.ptk_words_windows.specs.Windows.{own_ticks}
+use Rattle.ptk_words_model.specs.Windows.{own_ticks}
 use Rattle.ptk_system_machine.specs.Turns.{IsInWindow}
 use Rattle.ptk_system_machine.specs.Whole.{state_at}
 use Rattle.ptk_system_machine.proofs.Prepared.{prepared_gone, prepared_state, turn_gone}

@@ -1,6 +1,6 @@
 use Rattle.std.proofs.Common.{◌+◌, sym, subst, arith, rules}
 use Rattle.ptk_words.proofs.Options.{some_of}
-use Rattle.ptk_words_batches.specs.Quiet.{IsQuiet}
+use Rattle.ptk_words_laws.specs.Quiet.{IsQuiet}
 use Rattle.ptk_kernel.specs.Kept.{limits_at, part_at}
 use Rattle.ptk_system_machine.specs.Whole.{Whole}
 use Rattle.ptk_system_machine.proofs.machine.Machine.quiet_until.Goals as goal

@@ -2,7 +2,7 @@ use Rattle.ptk_system_machine.specs.Whole.{state_at}
 use Rattle.ptk_kernel.specs.Kept.{limits_at}
 use Rattle.ptk_system_machine.proofs.Steady.{steady_start}
 use Rattle.std.proofs.Common.{◌-◌, arith}
-use Rattle.ptk_words_windows.specs.Windows.{own_ticks}
+use Rattle.ptk_words_model.specs.Windows.{own_ticks}
 use Rattle.ptk_system_machine.proofs.Ticks.{gone_start}
 use Rattle.ptk_system_machine.proofs.machine.Machine.rows.Goals as goal
 

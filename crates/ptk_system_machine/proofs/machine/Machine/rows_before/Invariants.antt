@@ -1,6 +1,6 @@
 use Rattle.std.proofs.Common.{◌≡◌, ◌+◌, ◌-◌, ◌≤◌, ◌<◌, true, false}
 use Rattle.std.specs.Prelude.{if◌then◌else◌}
-use Rattle.ptk_words_windows.specs.Windows.{own_ticks}
+use Rattle.ptk_words_model.specs.Windows.{own_ticks}
 use Rattle.ptk_kernel.specs.Kept.{limits_at, part_at}
 use Rattle.ptk_kernel.specs.Rows.{IsCallNext, IsStill}
 use Rattle.ptk_system_machine.specs.Steady.{AreSteady, IsStillBehindCall, states_from}

@@ -1,6 +1,6 @@
 use Rattle.std.proofs.Common.{◌≡◌, ℕ, ◌-◌, ◌<◌, ◌≤◌, length}
-use Rattle.ptk_words_windows.specs.Windows.{own_ticks}
-use Rattle.ptk_words_batches.specs.Quiet.{after_ticks}
+use Rattle.ptk_words_model.specs.Windows.{own_ticks}
+use Rattle.ptk_words_laws.specs.Quiet.{after_ticks}
 use Rattle.ptk_kernel.specs.Kept.{limits_at}
 use Rattle.ptk_system_machine.specs.Whole.{state_at}
 use Rattle.ptk_system_machine.proofs.machine.Machine.run.Given as goal

@@ -1,5 +1,5 @@
 use Rattle.std.proofs.Common.{◌≡◌, ℕ, ◌-◌, ◌<◌, ◌≤◌, sym, ap, subst, ◌∙◌, arith}
-use Rattle.ptk_words_windows.specs.Windows.{own_ticks}
+use Rattle.ptk_words_model.specs.Windows.{own_ticks}
 use Rattle.ptk_system_machine.specs.Turns.{IsComing}
 use Rattle.ptk_system_machine.specs.Whole.{Whole, account_at, gone_on, put_state}
 use Rattle.ptk_system_machine.proofs.Coming.{at_none}

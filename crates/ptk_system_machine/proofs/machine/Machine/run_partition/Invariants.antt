@@ -1,5 +1,5 @@
 use Rattle.std.proofs.Common.{◌≡◌, ◌-◌, ◌<◌, ◌≤◌}
-use Rattle.ptk_words_windows.specs.Windows.{own_ticks}
+use Rattle.ptk_words_model.specs.Windows.{own_ticks}
 use Rattle.ptk_system_machine.specs.Turns.{IsAt, IsComing}
 use Rattle.ptk_system_machine.specs.Whole.{account_at, gone_on}
 use Rattle.ptk_system_machine.proofs.machine.Machine.run_partition.Given as goal

@@ -1,5 +1,5 @@
 use Rattle.std.proofs.Common.{◌≡◌, ◌-◌, ◌<◌, ◌≤◌, sym, subst, arith}
-use Rattle.ptk_words_windows.specs.Windows.{own_ticks}
+use Rattle.ptk_words_model.specs.Windows.{own_ticks}
 use Rattle.ptk_kernel.specs.Kept.{limits_at, part_at}
 use Rattle.ptk_system_machine.specs.Accounts.{IsBehind}
 use Rattle.ptk_system_machine.specs.Steady.{AreSteady, states_from}

@@ -1,5 +1,5 @@
 use Rattle.std.proofs.Common.{◌≤◌, arith}
-use Rattle.ptk_words_windows.specs.Windows.{own_ticks}
+use Rattle.ptk_words_model.specs.Windows.{own_ticks}
 use Rattle.ptk_system_machine.specs.Turns.{IsInWindow}
 use Rattle.ptk_system_machine.proofs.StillQuiet.{still_beyond, still_within}
 use Rattle.ptk_system_machine.proofs.machine.Machine.run_window.Goals as goal

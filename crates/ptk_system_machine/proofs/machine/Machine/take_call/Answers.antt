@@ -1,8 +1,8 @@
 use Rattle.std.proofs.Common.{◌≡◌, ℕ, ◌+◌, ◌-◌, ◌<◌, ◌≤◌, length, subst, sym, arith}
-use Rattle.ptk_words_windows.specs.Windows.{own_ticks}
+use Rattle.ptk_words_model.specs.Windows.{own_ticks}
 use Rattle.ptk_words_model.specs.Decision.{after_turn, runner_of, spent_in_turn}
-use Rattle.ptk_words_batches.specs.Quiet.{after_ticks}
-use Rattle.ptk_words_batches.specs.Prepared.{prepared}
+use Rattle.ptk_words_laws.specs.Quiet.{after_ticks}
+use Rattle.ptk_words_laws.specs.Prepared.{prepared}
 use Rattle.ptk_kernel.specs.Kept.{limits_at, part_at, put_part}
 use Rattle.ptk_system_machine.specs.Accounts.{duration_of}
 use Rattle.ptk_system_machine.specs.Turns.{IsFreeFrom, IsInWindow}

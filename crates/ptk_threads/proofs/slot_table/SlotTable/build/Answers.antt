@@ -1,5 +1,5 @@
 use Rattle.std.proofs.Common.{◌∙◌, ap, map, refl}
-use Rattle.ptk_threads_slots.specs.Links.{threads_of}
+use Rattle.ptk_threads.specs.Links.{threads_of}
 use Rattle.ptk_threads.proofs.Linked.{linked_filled, filled_threads, filled_queues}
 use Rattle.ptk_threads.proofs.slot_table.SlotTable.build.Goals as goal
 

@@ -2,7 +2,7 @@ use Rattle.std.proofs.Common.{◌≡◌, ℕ, List, length, false, sym, subst, r
 use Rattle.std.specs.Prelude.{Option, IsSome}
 use Rattle.ptk_words.specs.Pools.{pool_changed, pool_get, is_in}
 use Rattle.ptk_words.specs.declared.threads.Thread.{Thread}
-use Rattle.ptk_words_parted.specs.Parts.{part_of}
+use Rattle.ptk_words.specs.Parts.{part_of}
 use Rattle.ptk_threads.specs.Queues.{with_last, with_out}
 use Rattle.ptk_threads.proofs.Linked.{lists_at, used_here, relinked_at, moved_at}
 use Rattle.ptk_threads.proofs.Slots.{used_below}

@@ -1,7 +1,7 @@
 use Rattle.std.proofs.Common.{◌≡◌, length, ◌∙◌, ap, rules}
-use Rattle.ptk_words_parted.specs.Parts.{part_of}
-use Rattle.ptk_threads_slots.specs.Links.{place_of}
-use Rattle.ptk_threads_slots.specs.Changes.{first_in}
+use Rattle.ptk_words.specs.Parts.{part_of}
+use Rattle.ptk_threads.specs.Links.{place_of}
+use Rattle.ptk_threads.specs.LinkChanges.{first_in}
 use Rattle.ptk_threads.specs.Queues.{without_first}
 use Rattle.ptk_threads.proofs.Linked.{lists_at, relinked_at, view_at}
 use Rattle.ptk_threads.proofs.slot_table.SlotTable.take_first.Goals as goal

@@ -1,5 +1,5 @@
 use Rattle.std.proofs.Common.{◌≡◌, List, get_or, ltb-true, refl, sym, ap, subst, ◌∙◌, arith}
-use Rattle.ptk_words_windows.specs.declared.window.Window.{Window}
+use Rattle.ptk_words_model.specs.declared.window.Window.{Window}
 use Rattle.ptk_window.specs.Order.{IsFirst}
 use Rattle.ptk_window.specs.Stages.{groups_at}
 use Rattle.ptk_window.proofs.StageLaws.{groups_is, groups_slice}

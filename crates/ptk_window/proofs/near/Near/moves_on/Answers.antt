@@ -1,7 +1,7 @@
 use Rattle.std.proofs.Common.{◌≡◌, ◌+◌, ◌<◌, List, length, get_or, ltb-true, eqb-true, refl, arith, sym, ap, subst, ◌∙◌}
 use Rattle.std.proofs.lemmas.Bool.{eqb-false}
 use Rattle.std.proofs.lemmas.List.{get_or_default}
-use Rattle.ptk_words_windows.specs.declared.window.Window.{Window}
+use Rattle.ptk_words_model.specs.declared.window.Window.{Window}
 use Rattle.ptk_window.specs.Stages.{groups_at}
 use Rattle.ptk_window.proofs.StageLaws.{groups_slice}
 use Rattle.ptk_window.proofs.Nexts.{following, all_ended, fits, short, grouped_at}

@@ -1,6 +1,6 @@
 use Rattle.std.proofs.Common.{◌≡◌, ℕ, ◌+◌, ◌-◌, ◌%◌, List, refl, sym, subst, arith}
 use Rattle.std.proofs.lemmas.Nat.{mod_below, div-add-mod'}
-use Rattle.ptk_words_windows.specs.declared.window.Window.{Window}
+use Rattle.ptk_words_model.specs.declared.window.Window.{Window}
 use Rattle.ptk_window.specs.Order.{IsFirstAfter}
 use Rattle.ptk_window.specs.Stages.{groups_at}
 use Rattle.ptk_window.proofs.StageLaws.{groups_slice}

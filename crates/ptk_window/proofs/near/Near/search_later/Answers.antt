@@ -1,6 +1,6 @@
 use Rattle.std.proofs.Common.{◌≡◌, ℕ, ◌+◌, ◌*◌, max, List, length, refl, sym, ap, subst, ◌∙◌, arith, inl, inr}
 use Rattle.std.proofs.lemmas.Bool.{cases_lt}
-use Rattle.ptk_words_windows.specs.declared.window.Window.{Window}
+use Rattle.ptk_words_model.specs.declared.window.Window.{Window}
 use Rattle.ptk_window.specs.Order.{IsFirstAfter}
 use Rattle.ptk_window.specs.Stages.{HasTick, from_at}
 use Rattle.ptk_window.proofs.StageLaws.{from_is, begin_is, groups_slice}

@@ -1,5 +1,5 @@
 use Rattle.std.proofs.Common.{ℕ, ◌<◌, ◌≤◌}
-use Rattle.ptk_words_windows.specs.Windows.{IsOwn}
+use Rattle.ptk_words_model.specs.Windows.{IsOwn}
 use Rattle.ptk_window.specs.Stages.{HasTick, plan_of}
 use Rattle.ptk_window.proofs.near.Near.search_later.Given as goal
 

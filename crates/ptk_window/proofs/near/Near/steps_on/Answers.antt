@@ -1,7 +1,7 @@
 use Rattle.std.proofs.Common.{◌≡◌, ◌+◌, ◌<◌, ◌≤◌, All, List, length, get_or, eqb-true, refl, arith, sym, ap, subst, ◌∙◌}
 use Rattle.std.proofs.lemmas.Bool.{eqb-false}
 use Rattle.std.proofs.lemmas.List.{get_or_default}
-use Rattle.ptk_words_windows.specs.declared.window.Window.{Window}
+use Rattle.ptk_words_model.specs.declared.window.Window.{Window}
 use Rattle.ptk_window.specs.Stages.{HasTick, groups_at}
 use Rattle.ptk_window.proofs.StageLaws.{groups_slice}
 use Rattle.ptk_window.proofs.Nexts.{following, anew, all_ended, fits, grouped_at, next_frame_aligned}

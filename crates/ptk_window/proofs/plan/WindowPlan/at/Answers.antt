@@ -1,7 +1,7 @@
 use Rattle.std.proofs.Common.{◌≡◌, ℕ, ◌%◌, List, All, Contains, get_or, sym, subst, ◌∙◌, ap, arith}
-use Rattle.ptk_words_windows.specs.declared.window.Window.{Window}
-use Rattle.ptk_words_windows.specs.Windows.{WindowPlan, Holds, IsOwn, IsOwnUntil, IsPlan, end_from}
-use Rattle.ptk_words_windows.proofs.OwnLaws.{end_none, until_near}
+use Rattle.ptk_words_model.specs.declared.window.Window.{Window}
+use Rattle.ptk_words_model.specs.Windows.{WindowPlan, Holds, IsOwn, IsOwnUntil, IsPlan, end_from}
+use Rattle.ptk_words_model.proofs.OwnLaws.{end_none, until_near}
 use Rattle.ptk_window.specs.declared.table.Table.{Table}
 use Rattle.ptk_window.specs.Order.{end_of}
 use Rattle.ptk_window.specs.Stages.{ArePlanned, plan_of}

@@ -1,6 +1,6 @@
 use Rattle.std.proofs.Common.{◌≡◌, ℕ, ◌*◌, ◌<◌, List, get_or, length, sym, ap, subst, ◌∙◌, arith}
 use Rattle.std.proofs.lemmas.List.{length-map}
-use Rattle.ptk_words_windows.specs.Windows.{WindowPlan}
+use Rattle.ptk_words_model.specs.Windows.{WindowPlan}
 use Rattle.ptk_window.specs.declared.table.Table.{Table}
 use Rattle.ptk_window.specs.Stages.{ArePlanned, plan_of, stage_of}
 use Rattle.ptk_window.proofs.StageLaws.{begin_is, number_is}

@@ -1,6 +1,6 @@
 use Rattle.std.proofs.Common.{List, map, sym, subst}
-use Rattle.ptk_words_windows.specs.Windows.{Stage, IsPlan}
-use Rattle.ptk_words_windows.proofs.FaultLaws.{accepted, accepted_windows}
+use Rattle.ptk_words_model.specs.Windows.{Stage, IsPlan}
+use Rattle.ptk_words_model.proofs.FaultLaws.{accepted, accepted_windows}
 use Rattle.ptk_window.proofs.plan.WindowPlan.new.Goals as goal
 
 pub tables_of-requires-clause-fine : goal.tables_of-requires-clause-fine

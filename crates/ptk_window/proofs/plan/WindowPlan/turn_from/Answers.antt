@@ -1,6 +1,6 @@
 use Rattle.std.proofs.Common.{◌≡◌, ℕ, ◌≤◌, List, sym, subst, ◌∙◌, ap}
-use Rattle.ptk_words_windows.specs.Windows.{WindowPlan, IsOwn, IsPlan}
-use Rattle.ptk_words_windows.proofs.NextLaws.{next_none}
+use Rattle.ptk_words_model.specs.Windows.{WindowPlan, IsOwn, IsPlan}
+use Rattle.ptk_words_model.proofs.NextLaws.{next_none}
 use Rattle.ptk_window.specs.declared.table.Table.{Table}
 use Rattle.ptk_window.specs.Stages.{ArePlanned, plan_of}
 use Rattle.ptk_window.specs.Turn.{IsTurn, IsShort}

@@ -1,5 +1,5 @@
 use Rattle.std.proofs.Common.{◌≡◌, List, sym, ap, subst, ◌∙◌}
-use Rattle.ptk_words_windows.specs.Windows.{WindowPlan, windows_at}
+use Rattle.ptk_words_model.specs.Windows.{WindowPlan, windows_at}
 use Rattle.ptk_window.specs.declared.table.Table.{Table}
 use Rattle.ptk_window.specs.Stages.{ArePlanned, plan_of}
 use Rattle.ptk_window.proofs.StageLaws.{windows_there}

@@ -1,5 +1,5 @@
 use Rattle.std.proofs.Common.{◌≡◌, List, IsPermutation, rules, sym, subst}
-use Rattle.ptk_words_windows.specs.declared.window.Window.{Window}
+use Rattle.ptk_words_model.specs.declared.window.Window.{Window}
 use Rattle.ptk_window.specs.Order.{IsOrdered}
 use Rattle.ptk_window.proofs.Orders.{ordered}
 use Rattle.ptk_window.proofs.table.Table.new.Goals as goal

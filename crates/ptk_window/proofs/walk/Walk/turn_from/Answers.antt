@@ -1,5 +1,5 @@
 use Rattle.std.proofs.Common.{◌≡◌, None, subst}
-use Rattle.ptk_words_windows.specs.Windows.{own_ticks}
+use Rattle.ptk_words_model.specs.Windows.{own_ticks}
 use Rattle.ptk_window.specs.Walks.{Way}
 use Rattle.ptk_window.proofs.Nexts.{IsTurn-at, IsShort-at, turn_room, no_turn}
 use Rattle.ptk_window.proofs.Ways.{here_known, turn_seen, short_seen}

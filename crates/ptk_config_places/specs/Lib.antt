@@ -1,5 +1,0 @@
-pub mod Placed
-pub mod Walks
-pub mod Windows
-pub mod Refusals
-pub mod Lookup

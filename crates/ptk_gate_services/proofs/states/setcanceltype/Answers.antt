@@ -1,5 +1,0 @@
-use Rattle.std.proofs.Common.{rules}
-use Rattle.ptk_gate_services.proofs.states.setcanceltype.Goals as goal
-
-pub returns-clause-moved : goal.returns-clause-moved
-returns-clause-moved c = search rules

@@ -1,9 +1,0 @@
-pub mod Timeouts
-pub use Rattle.ptk_cond.specs.Pool
-pub use Rattle.ptk_cond.specs.Tables
-pub use Rattle.ptk_cond.specs.Moves
-pub use Rattle.ptk_cond.specs.LockPool
-pub use Rattle.ptk_cond.specs.LockRosters
-pub use Rattle.ptk_cond.specs.Sound
-pub use Rattle.ptk_cond.specs.LockTables
-pub use Rattle.ptk_cond.specs.Mutexes

@@ -1,5 +1,0 @@
-use Rattle.std.proofs.Common.{rules}
-use Rattle.ptk_mutex_priorities.proofs.moves.own_trylock_move.Goals as goal
-
-pub returns-in-Normal : goal.returns-in-Normal
-returns-in-Normal c = search rules

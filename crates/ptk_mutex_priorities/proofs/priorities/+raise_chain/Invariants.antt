@@ -1,4 +1,0 @@
-use Rattle.ptk_mutex_priorities.proofs.priorities.+raise_chain.Given as goal
-
-abbrev pub decreases-raise_chain : goal.decreases-raise_chain
-decreases-raise_chain l = l.fuel

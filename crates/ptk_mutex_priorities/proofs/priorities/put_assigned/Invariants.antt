@@ -1,6 +1,0 @@
-use Rattle.ptk_threads_slots.specs.Links.{threads_of}
-use Rattle.ptk_mutex_priorities.proofs.Held.{AreAssigned}
-use Rattle.ptk_mutex_priorities.proofs.priorities.put_assigned.Given as goal
-
-abbrev pub invariant-loop-k : goal.invariant-loop-k
-invariant-loop-k l = AreAssigned (threads_of l.threads) l.k l.stored

@@ -1,5 +1,0 @@
-use Rattle.std.proofs.Common.{rules}
-use Rattle.ptk_mutex_priorities.proofs.slot.MutexSlot.change.Goals as goal
-
-pub returns : goal.returns
-returns c = search rules

@@ -1,0 +1,11 @@
+use Rattle.std.proofs.Common.{◌∙◌, ap, arith}
+use Rattle.ptk_words.specs.Pools.{pool_get}
+use Rattle.ptk_words.specs.Parts.{part_of}
+use Rattle.ptk_words_model.specs.Condition.{waiters_on}
+use Rattle.ptk_roster.specs.Rosters.{Rostered}
+use Rattle.ptk_roster.proofs.Pools.{sleepers_at}
+use Rattle.ptk_roster.proofs.roster.Roster.condition_waiters.Goals as goal
+
+pub returns : goal.returns
+returns c = c.members.ensures ∙ (sleepers_at c.self.inside.threads c.self.inside.mutexes c.self.inside.conditions c.args.p c.args.c c.self.invariant.pools (omega (arith, c.number-number.ensures.value, c.number-number.ensures.positive))
+    ∙ ap (λ (n : Rostered). waiters_on (pool_get (part_of n.conditions c.args.p) c.args.c)) c.self.view_is)

@@ -1,0 +1,9 @@
+pub mod Waiters
+pub mod Rosters
+pub use Rattle.ptk_ready.specs.Lines
+pub mod Slots
+pub mod Changes
+pub mod Plain
+pub mod Raising
+pub mod Raised
+pub mod Tables

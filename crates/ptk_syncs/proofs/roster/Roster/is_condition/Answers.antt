@@ -1,7 +1,0 @@
-use Rattle.std.proofs.Common.{◌-◌, false, get_or, ◌∙◌, ap, arith, List, Bool}
-use Rattle.ptk_syncs.specs.Rosters.{Rostered}
-use Rattle.ptk_syncs.proofs.Seen.{is_some_at}
-use Rattle.ptk_syncs.proofs.roster.Roster.is_condition.Goals as goal
-
-pub returns : goal.returns
-returns c = c.is_used.ensures ∙ (ap (λ (l : List Bool). get_or l (c.args.c - 1) false) c.part.ensures ∙ is_some_at c.self.inside.threads.queues c.self.inside.conditions c.args.self.now.conditions c.args.p c.args.c (omega (arith, c.number-number.ensures.value, c.number-number.ensures.positive)) (ap (λ (n : Rostered). n.conditions) c.self.view_is))

@@ -1,3 +1,0 @@
-pub mod Waiters
-pub mod Rosters
-pub use Rattle.ptk_ready.specs.Lines

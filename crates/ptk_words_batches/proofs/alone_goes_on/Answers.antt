@@ -1,5 +1,0 @@
-use Rattle.ptk_words_batches.proofs.TicksInARow.{alone_on}
-use Rattle.ptk_words_batches.proofs.alone_goes_on.Goals as goal
-
-pub returns : goal.returns
-returns c = alone_on

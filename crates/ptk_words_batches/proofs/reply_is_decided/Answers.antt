@@ -1,5 +1,0 @@
-use Rattle.ptk_words_batches.proofs.ReplyDecisions.{reply_decided}
-use Rattle.ptk_words_batches.proofs.reply_is_decided.Goals as goal
-
-pub returns : goal.returns
-returns c = reply_decided

@@ -1,5 +1,0 @@
-use Rattle.ptk_words_batches.proofs.ReplyDecisions.{reply_quiet}
-use Rattle.ptk_words_batches.proofs.reply_stays_quiet.Goals as goal
-
-pub returns : goal.returns
-returns c = reply_quiet

@@ -1,5 +1,0 @@
-use Rattle.ptk_words_batches.proofs.RowsKept.{priorities_kept}
-use Rattle.ptk_words_batches.proofs.row_keeps_priorities.Goals as goal
-
-pub returns : goal.returns
-returns c = priorities_kept

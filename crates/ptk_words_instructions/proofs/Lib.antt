@@ -1,4 +1,0 @@
-pub mod Masks
-pub mod FieldRows
-pub mod RowLaws
-pub mod PlainJoins

@@ -1,6 +1,0 @@
-use Rattle.ptk_words_instructions.specs.Instructions.{instruction_table}
-use Rattle.ptk_words_instructions.proofs.RowLaws.{pairs_apart, table_apart}
-use Rattle.ptk_words_instructions.proofs.no_word_agrees_twice.Goals as goal
-
-pub returns : goal.returns
-returns c = pairs_apart instruction_table table_apart

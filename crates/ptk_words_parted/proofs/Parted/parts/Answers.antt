@@ -1,6 +1,0 @@
-use Rattle.std.proofs.Common.{◌∙◌}
-use Rattle.ptk_words_parted.proofs.Cuts.{length-parts}
-use Rattle.ptk_words_parted.proofs.Parted.parts.Goals as goal
-
-pub returns : goal.returns
-returns g c = c.count.ensures ∙ length-parts _ _ _ c.self.view_is

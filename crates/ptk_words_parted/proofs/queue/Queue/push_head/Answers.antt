@@ -1,9 +1,0 @@
-use Rattle.std.proofs.Common.{arith}
-use Rattle.ptk_words_parted.proofs.Lists.{lines}
-use Rattle.ptk_words_parted.proofs.queue.Queue.push_head.Goals as goal
-
-pub invariant_of-self : goal.invariant_of-self
-invariant_of-self c = grind (arith, lines)
-
-pub returns : goal.returns
-returns c = grind (arith, lines)

@@ -1,6 +1,0 @@
-use Rattle.std.proofs.Common.{◌≡◌}
-use Rattle.ptk_words_parted.specs.Parts.{filled}
-use Rattle.ptk_words_parted.proofs.repeated.Given as goal
-
-abbrev pub invariant-loop-i : goal.invariant-loop-i
-invariant-loop-i g l = l.items.items ≡ filled l.item l.i

@@ -1,5 +1,0 @@
-use Rattle.ptk_words_windows.proofs.OwnLaws.{end_of_window}
-use Rattle.ptk_words_windows.proofs.laws.end_is_of_window.Goals as goal
-
-pub returns : goal.returns
-returns c = end_of_window

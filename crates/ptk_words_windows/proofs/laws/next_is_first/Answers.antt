@@ -1,5 +1,0 @@
-use Rattle.ptk_words_windows.proofs.NextLaws.{next_first}
-use Rattle.ptk_words_windows.proofs.laws.next_is_first.Goals as goal
-
-pub returns : goal.returns
-returns c = next_first

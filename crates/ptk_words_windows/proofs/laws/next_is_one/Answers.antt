@@ -1,5 +1,0 @@
-use Rattle.ptk_words_windows.proofs.NextLaws.{next_one}
-use Rattle.ptk_words_windows.proofs.laws.next_is_one.Goals as goal
-
-pub returns : goal.returns
-returns c = next_one

@@ -1,4 +1,0 @@
-pub mod Windows
-pub mod FaultNumbers
-pub mod WindowFaults
-pub mod OwnTicksLaws
