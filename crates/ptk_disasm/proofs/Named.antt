@@ -4,7 +4,7 @@ use Rattle.std.specs.Prelude.{codes, filter}
 use Rattle.std.specs.List.{list_all}
 use Rattle.std.proofs.lemmas.Bool.Decides.{nat_tests}
 use Rattle.std.specs.Fmt.{digits}
-use Rattle.ptk_symbols.specs.Tables.{is_visible, exact, nearest, distance_text, bracketed}
+use Rattle.ptk_disasm.specs.Tables.{is_visible, exact, nearest, distance_text, bracketed}
 use Rattle.ptk_disasm.specs.Disassembly.{AreWithinLine, names_of, is_within_line}
 use Rattle.ptk_disasm.proofs.Hexadecimal.{both-within, digits-within, each-within}
 

@@ -9,8 +9,8 @@ use Rattle.ptk_rv32i_code.specs.declared.instr.Instr.{Instr}
 use Rattle.ptk_rv32i_code.specs.declared.instr.Instr.TheVariants as instr
 use Rattle.ptk_rv32i_code.specs.declared.instr.ImmediateOp.{ImmediateOp}
 use Rattle.ptk_rv32i_code.specs.declared.instr.ImmediateOp.TheVariants as immediate
-use Rattle.ptk_words_instructions.specs.Instructions as isa
-use Rattle.ptk_words_instructions.specs.Instructions.{Name, InstructionRow, decode_of}
+use Rattle.ptk_words_model.specs.Instructions as isa
+use Rattle.ptk_words_model.specs.Instructions.{Name, InstructionRow, decode_of}
 use Rattle.ptk_rv32i_code.specs.declared.instr.BranchTest.{BranchTest}
 use Rattle.ptk_rv32i_code.specs.declared.instr.LoadKind.{LoadKind}
 use Rattle.ptk_rv32i_code.specs.declared.instr.StoreKind.{StoreKind}

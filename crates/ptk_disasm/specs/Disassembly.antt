@@ -2,7 +2,7 @@
 use Rattle.std.specs.Prelude.{ℕ, ◌+◌, ◌≤◌, ◌≡◌, Bool, true, not, List, [], ◌∷◌, ◌++◌, length, flat_map, ◌==◌, if◌then◌else◌, Option, Some, None, pos, Ok, codes, nat_lt}
 use Rattle.std.specs.Int.{w32, from_le_bytes}
 use Rattle.std.specs.List.{concat, list_all}
-use Rattle.ptk_symbols.specs.Tables.{name_text, place_text}
+use Rattle.ptk_disasm.specs.Tables.{name_text, place_text}
 use Rattle.ptk_words.specs.Words.{word_of, sign_extension}
 use Rattle.ptk_words.specs.Image.{ImageParts}
 use Rattle.ptk_rv32i_code.specs.declared.instr.Instr.{Instr}
@@ -25,7 +25,7 @@ addressed at s = Stated s (padded_hex at)
 
 -- ---- the text
 
--- the label of the entry, where it is here (own)
+-- the label of the entry, if it is here (own)
 abbrev pub entry_line : ℕ → ℕ → List Line
 entry_line entry at = if at == entry then Entry ∷ [] else []
 
@@ -35,20 +35,20 @@ target_of at (Some (instr.Branch t rs1 rs2 bits)) = Some (word_of (at + sign_ext
 target_of at (Some (instr.Jal rd bits)) = Some (word_of (at + sign_extension 21 bits))
 target_of at i = None
 
--- what stands behind an address in a comment: behind that of a line, and behind a target (own)
+-- what comes after an address in a comment: after that of a line, and after a target (own)
 pub record Names : Type 0 where
   pub here : ℕ → List ℕ
   pub there : ℕ → List ℕ
 
--- no names: nothing stands behind an address (own)
+-- no names: nothing comes after an address (own)
 abbrev pub no_names : Names
 no_names = record { here = λ a. []; there = λ a. [] }
 
--- the names that symbols give: behind the address of a line the symbol that begins there, behind a target the symbol that is nearest to it (own)
+-- the names that symbols give: after the address of a line the symbol that begins there, after a target the symbol that is nearest to it (own)
 abbrev pub names_of : List (ℕ × List ℕ) → Names
 names_of symbols = record { here = name_text symbols; there = place_text symbols }
 
--- an address behind an arrow, where there is one (own)
+-- an arrow and an address, if there is one (own)
 abbrev pub target_text : Names → Option ℕ → List ℕ
 target_text names None = []
 target_text names (Some target) = concat (codes " -> " ∷ padded_hex target ∷ names.there target ∷ [])
@@ -67,7 +67,7 @@ abbrev pub text_lines : Names → ℕ → ℕ → List ℕ → List Line
 text_lines names entry at [] = entry_line entry at
 text_lines names entry at (word ∷ words) = entry_line entry at ++ word_line names at word ∷ text_lines names entry (at + 4) words
 
--- ---- the data and the zeros behind it
+-- ---- the data and the zeros after it
 
 -- bytes from an address on, one by one (own)
 abbrev pub byte_lines : ℕ → List ℕ → List Line
@@ -79,7 +79,7 @@ abbrev pub data_lines : ℕ → List ℕ → List Line
 data_lines at (a ∷ b ∷ c ∷ d ∷ bytes) = addressed at (given form.Word [] (pos (from_le_bytes w32 (a ∷ b ∷ c ∷ d ∷ [])))) ∷ data_lines (at + 4) bytes
 data_lines at bytes = byte_lines at bytes
 
--- the zeros, where there are some (own)
+-- the zeros, if there are some (own)
 abbrev pub zero_lines : ℕ → ℕ → List Line
 zero_lines at n = if n == 0 then [] else addressed at (given form.Space [] (pos n)) ∷ []
 
@@ -93,7 +93,7 @@ data_section at bytes = addressed at (bare (form.Within section.Data) []) ∷ da
 abbrev pub bss_section : ℕ → ℕ → List Line
 bss_section at n = addressed at (bare (form.Within section.Bss) []) ∷ zero_lines at n
 
--- the sections behind the text (own)
+-- the sections after the text (own)
 abbrev pub sections_behind : ImageParts → List Line
 sections_behind image =
     data_section (length image.text) image.«data» ++ bss_section (length image.text + length image.«data») image.bss

@@ -99,7 +99,7 @@ value_text f Nothing = []
 value_text f (Given n) = number_text f n
 value_text f (Labelled name) = name
 
--- a mark, and a blank behind a comma; the marks of the language are ASCII (own)
+-- a mark, and a blank after a comma; the marks of the language are ASCII (own)
 abbrev pub mark_text : ℕ → List ℕ
 mark_text m = if m == 44 then codes ", " else (if nat_lt m 128 then m ∷ [] else [])
 
@@ -113,7 +113,7 @@ operands_text value (s ∷ slots) rs = value ++ operands_text value slots rs
 
 -- ---- statements and lines
 
--- what stands behind a mnemonic, with a blank before it where the form has operands (own)
+-- what comes after a mnemonic, with a blank before it if the form has operands (own)
 abbrev pub behind : List Slot → List ℕ → List ℕ
 behind [] text = []
 behind (s ∷ slots) text = 32 ∷ text
@@ -127,7 +127,7 @@ pub data Line : Type 0 where
   Entry : Line
   Stated : Statement → List ℕ → Line
 
--- a comment behind a statement (own)
+-- a comment after a statement (own)
 abbrev pub comment_text : List ℕ → List ℕ
 comment_text comment = codes " # " ++ comment
 

@@ -22,7 +22,7 @@ given f rs n = record { form = f; operands = record { registers = rs; value = Gi
 abbrev pub signed : ℕ → ℕ → ℤ
 signed width bits = if nat_lt bits (2 ^ (width - 1)) then pos bits else negsuc (2 ^ width - 1 - bits)
 
--- addi: nop, li or mv where it is that (RISC-V 25)
+-- addi: nop, li or mv if it is that (RISC-V 25)
 abbrev pub add_statement : ℕ → ℕ → ℕ → Statement
 add_statement rd rs1 bits =
     if rs1 == 0 then (if rd == 0 && bits == 0 then bare form.Nop [] else given form.LoadValue (rd ∷ []) (signed 12 bits))
@@ -33,13 +33,13 @@ abbrev pub immediate_statement : ImmediateOp → ℕ → ℕ → ℕ → Stateme
 immediate_statement immediate.Add rd rs1 bits = add_statement rd rs1 bits
 immediate_statement op rd rs1 bits = given (form.WithImmediate op) (rd ∷ rs1 ∷ []) (signed 12 bits)
 
--- jalr: ret or jr where it is that (RISC-V 25)
+-- jalr: ret or jr if it is that (RISC-V 25)
 abbrev pub jalr_statement : ℕ → ℕ → ℕ → Statement
 jalr_statement rd rs1 bits =
     if rd == 0 && bits == 0 then (if rs1 == 1 then bare form.Return [] else bare form.JumpRegister (rs1 ∷ []))
     else given form.Jalr (rd ∷ rs1 ∷ []) (signed 12 bits)
 
--- jal: j where it is that (RISC-V 25)
+-- jal: j if it is that (RISC-V 25)
 abbrev pub jal_statement : ℕ → ℕ → Statement
 jal_statement rd bits = if rd == 0 then given form.Jump [] (signed 21 bits) else given form.Jal (rd ∷ []) (signed 21 bits)
 

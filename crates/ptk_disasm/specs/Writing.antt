@@ -18,7 +18,7 @@ shown (Some n) = Given n
 abbrev pub stated : Form → List ℕ → Option ℤ → Statement
 stated f rs number = record { form = f; operands = record { registers = rs; value = shown number } }
 
--- the first section that is longer than the language allows, or out of memory where all of them fit (own)
+-- the first section that is longer than the language allows, or out of memory if all of them fit (own)
 abbrev pub IsRefused : ImageParts → DisasmFault → Type 0
 IsRefused image (fault.TooLong section.Text) = longest < length image.text
 IsRefused image (fault.TooLong section.Data) = (length image.text ≤ longest) × (longest < length image.«data»)

@@ -9,9 +9,9 @@ ghost use Rattle.ptk_disasm.specs.Writing.{IsRefused};
 
 use crate::fault::DisasmFault;
 use crate::lines::{push_addressed, push_data, push_text, push_zeros};
+use crate::symbols::Symbols;
 use ptk_asm_language::{Form, Section};
 use ptk_image::Image;
-use ptk_symbols::Symbols;
 use std::alloc::{AllocError, Global};
 
 /// Greatest length of a section that the assembly language allows.
@@ -62,10 +62,10 @@ fn sections_fit(image: &Image) -> Result<(), DisasmFault>
 
 /// The source of an image, of which `assemble` makes that image again (clause `same`, by the assembler's own
 /// definition). A line for each word of the text, `_start:` at the entry, the data as words and up to three bytes, the
-/// zeros as one `.space`. A word that is no instruction, or that no statement has, is `.word`. A comment behind each
+/// zeros as one `.space`. A word that is no instruction, or that no statement has, is `.word`. A comment after each
 /// line has its address; for a word of the text also the word, and the address that a branch or a jump goes to. The
-/// error is the first section of text, data and bss that is longer than 1,048,576 bytes, or `Memory` where memory runs
-/// out, which comes only where all of them fit.
+/// error is the first section of text, data and bss that is longer than 1,048,576 bytes, or, if all of them fit,
+/// `Memory` if memory runs out.
 pub fn disassemble(alloc: Global, image: &Image) -> Result<String, DisasmFault>
     ensures same { IfOk result (λ text. source (string_bytes text) ≡ Ok image.now) }
     ensures text { IfOk result (λ text. string_bytes text ≡ disassembled image.now) }
@@ -75,9 +75,9 @@ pub fn disassemble(alloc: Global, image: &Image) -> Result<String, DisasmFault>
     disassemble_with(alloc, image, &Symbols::new(alloc))
 }
 
-/// The source of an image as `disassemble` returns it, with names in the comments of the text's words: behind the
-/// address of a line the first symbol that begins there, behind the target of a branch or a jump the symbol that is
-/// nearest to it, with the distance from it. Nothing stands there where the symbols have none.
+/// The source of an image as `disassemble` returns it, with names in the comments of the text's words: after the
+/// address of a line the first symbol that begins there, after the target of a branch or a jump the symbol that is
+/// nearest to it, with the distance from it. If there is no such symbol, nothing is written there.
 pub fn disassemble_with(
     alloc: Global,
     image: &Image,

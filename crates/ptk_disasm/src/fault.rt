@@ -1,4 +1,4 @@
-//! Why an image has no source.
+//! Why an image has no source, and why a text is not a symbol table.
 
 use ptk_asm_language::Section;
 use std::alloc::AllocError;
@@ -23,5 +23,27 @@ impl From<AllocError> for DisasmFault {
 
     fn from(_error: AllocError) -> DisasmFault {
         DisasmFault::Memory
+    }
+}
+
+/// Why a text is not a symbol table.
+#[derive(Clone, Copy, Debug, PartialEq, Eq, Error)]
+pub enum SymbolFault {
+    /// The first line that is not a symbol, counted from 1.
+    #[error("line {0} is no symbol")]
+    Line(usize),
+    /// Out of memory.
+    #[error("out of memory")]
+    Memory,
+}
+
+impl From<AllocError> for SymbolFault {
+    ghost use Rattle.std.specs.Prelude.{◌≡◌};
+    ghost use Rattle.ptk_disasm.specs.declared.fault.SymbolFault.TheVariants.{Memory};
+
+    ghost from_gives = { λ _ e. e ≡ Memory };
+
+    fn from(_error: AllocError) -> SymbolFault {
+        SymbolFault::Memory
     }
 }

@@ -50,7 +50,7 @@ fn push_word(out: &mut String, word: u32) -> Result<(), AllocError>
     push_statement(out, Form::Word, &[], Some(i64::from(word)))
 }
 
-/// Appends an addition of an immediate: `nop`, `li` or `mv` where it is that.
+/// Appends an addition of an immediate: `nop`, `li` or `mv` if it is that.
 fn push_addition(
     out: &mut String,
     rd: Register,
@@ -97,7 +97,7 @@ fn push_immediate(
     }
 }
 
-/// Appends a jump to a register and an offset: `ret` or `jr` where it is that.
+/// Appends a jump to a register and an offset: `ret` or `jr` if it is that.
 fn push_jump_register(
     out: &mut String,
     rd: Register,
@@ -118,7 +118,7 @@ fn push_jump_register(
     }
 }
 
-/// Appends a jump to an offset: `j` where it is that.
+/// Appends a jump to an offset: `j` if it is that.
 fn push_jump(out: &mut String, rd: Register, offset: JumpOffset) -> Result<(), AllocError>
     ensures { OnOk result (string_bytes out.new ≡ string_bytes out.old ++ statement_text (is.jal_statement rd offset)) }
 {
@@ -130,7 +130,7 @@ fn push_jump(out: &mut String, rd: Register, offset: JumpOffset) -> Result<(), A
     }
 }
 
-/// Appends a fence, which is the word where its fields are not those of `fence`.
+/// Appends a fence; the word by its value if its fields are not those of `fence`.
 fn push_fence(out: &mut String, word: u32) -> Result<(), AllocError>
     ensures { OnOk result (string_bytes out.new ≡ string_bytes out.old ++ statement_text (is.fence_statement word)) }
 {
@@ -205,7 +205,7 @@ fn push_instruction(out: &mut String, word: u32, instruction: Instr) -> Result<(
     }
 }
 
-/// Appends the statement of a word of the text; the word by its value where it is no instruction.
+/// Appends the statement of a word of the text; the word by its value if it is no instruction.
 pub fn push_word_statement(out: &mut String, word: u32) -> Result<(), AllocError>
     ensures { OnOk result (string_bytes out.new ≡ string_bytes out.old ++ statement_text (is.statement_for word)) }
 {

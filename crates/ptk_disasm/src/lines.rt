@@ -9,13 +9,13 @@ ghost use Rattle.ptk_disasm.specs.Writing.{stated};
 
 use crate::instructions::push_word_statement;
 use crate::statements::push_statement;
+use crate::symbols::Symbols;
 use crate::targets::target_of;
 use ptk_asm_language::Form;
-use ptk_symbols::Symbols;
 use std::alloc::AllocError;
 use std::fmt::Write;
 
-/// Appends the label of the entry, where it is here.
+/// Appends the label of the entry, if it is here.
 fn push_entry(out: &mut String, entry: u32, at: u32) -> Result<(), AllocError>
     ensures { OnOk result (string_bytes out.new ≡ string_bytes out.old ++ is.text_for (is.entry_line entry at)) }
 {
@@ -40,8 +40,8 @@ fn push_comment(out: &mut String, at: u32) -> Result<(), AllocError>
     push_hexadecimal(out, at)
 }
 
-/// Appends the address that a branch or a jump goes to behind an arrow, with the symbol that is nearest to it; nothing
-/// where there is none. The error is that of the allocator.
+/// Appends an arrow and the address that a branch or a jump goes to, with the symbol that is nearest to it; nothing if
+/// there is no such address. The error is that of the allocator.
 pub fn push_target(
     out: &mut String,
     symbols: &Symbols,
@@ -159,7 +159,7 @@ pub(crate) fn push_data(out: &mut String, start: u32, data: &[u8]) -> Result<(),
     push_bytes(out, at, rest)
 }
 
-/// Appends the zeros, where there are some.
+/// Appends the zeros, if there are some.
 pub(crate) fn push_zeros(out: &mut String, at: u32, count: u32) -> Result<(), AllocError>
     ensures { OnOk result (string_bytes out.new ≡ string_bytes out.old ++ is.text_for (is.zero_lines at count)) }
 {

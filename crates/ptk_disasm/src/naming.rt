@@ -96,7 +96,7 @@ pub(crate) fn mnemonic(form: Form) -> &'static str
 }
 
 /// The name of a register by its use, as `sp`.
-pub(crate) fn register_name(register: Register) -> &'static str
+pub fn register_name(register: Register) -> &'static str
     ensures { result.now ≡ is.register_name register }
 {
     match register.number() {

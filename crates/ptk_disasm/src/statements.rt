@@ -31,7 +31,7 @@ fn push_number(out: &mut String, form: Form, number: i64) -> Result<(), AllocErr
     }
 }
 
-/// Appends a mark, and a blank behind a comma.
+/// Appends a mark, and a blank after a comma.
 fn push_mark(out: &mut String, mark: u8) -> Result<(), AllocError>
     ensures { OnOk result (string_bytes out.new ≡ string_bytes out.old ++ is.mark_text mark) }
 {
@@ -43,7 +43,7 @@ fn push_mark(out: &mut String, mark: u8) -> Result<(), AllocError>
     Ok(())
 }
 
-/// Appends the number of a form, where there is one.
+/// Appends the number of a form, if there is one.
 fn push_value(out: &mut String, form: Form, number: Option<i64>) -> Result<(), AllocError>
     ensures { OnOk result (string_bytes out.new ≡ string_bytes out.old ++ is.value_text form (shown number)) }
 {
@@ -53,7 +53,7 @@ fn push_value(out: &mut String, form: Form, number: Option<i64>) -> Result<(), A
     }
 }
 
-/// Appends the operand in a place, and returns the registers that are left for the places behind it.
+/// Appends the operand in a place, and returns the registers that are left for the places after it.
 fn push_operand<'a>(
     out: &mut String,
     form: Form,
@@ -99,7 +99,7 @@ fn push_operands(
     Ok(())
 }
 
-/// Appends a statement: the mnemonic of a form, and behind it its operands.
+/// Appends a statement: the mnemonic of a form, and after it its operands.
 pub(crate) fn push_statement(
     out: &mut String,
     form: Form,

@@ -1,6 +1,1 @@
-pub mod Objects
-pub mod Arrays
-pub mod Told
-pub mod Documents
-pub mod Texts
-pub mod Explanations
+pub mod Waiting

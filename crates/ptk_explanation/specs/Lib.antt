@@ -1,5 +1,1 @@
-pub mod Explanations
-pub mod Lines
-pub mod Members
-pub mod Objects
-pub mod Words
+pub mod Deadlocks

@@ -1,20 +1,21 @@
 //! The answer to the question how a partition stands.
 
-ghost use Rattle.std.specs.Prelude.{◌≡◌, ◌≢◌, ℕ, ◌<◌, ◌≤◌, ◌++◌, List, None, Some, IfErr, IfOk, IsSome, MatchResult, OnOk, length, max, string_bytes};
-ghost use Rattle.std.specs.Io.KnownBytes.{Appends};
+ghost use Rattle.std.specs.Prelude.{◌≡◌, ◌≢◌, ◌<◌, ◌≤◌, None, Some, IfErr, IsSome, MatchResult, OnOk, length};
 ghost use Rattle.ptk_words.specs.declared.TheConstants.{LAST_TICK};
-ghost use Rattle.ptk_explanation_facts.specs.Missing.{first_missing, missing_in};
-ghost use Rattle.ptk_explanation_facts.specs.RunFault.TheVariants.{NoPartition};
-ghost use Rattle.ptk_explanation_facts.specs.RunFaults.{missing_in_run};
-ghost use Rattle.ptk_explanation_facts.specs.Parts.{part_named};
-ghost use Rattle.ptk_explanation_facts.specs.World.{world_at};
-ghost use Rattle.ptk_explanation.specs.Explanations.{IsExplanation, IsSaid};
+ghost use Rattle.ptk_system.specs.Missing.{first_missing, missing_in};
+ghost use Rattle.ptk_main_runs.specs.declared.runs.RunFault.TheVariants.{NoPartition};
+ghost use Rattle.ptk_main_runs.specs.RunFaults.{missing_in_run};
+ghost use Rattle.ptk_main_runs.specs.Parts.{part_named};
 
 use crate::document::push_document;
+use crate::explanation::Explanation;
+use crate::history::histories;
 use crate::lines::push_lines;
+use crate::signals::add_signals;
 use ptk_config::Config;
-use ptk_explanation_facts::{BootFault, Files, History, RunFault, System, histories, part_named};
-use ptk_symbols::Symbols;
+use ptk_disasm::Symbols;
+use ptk_main_runs::{RunFault, part_named};
+use ptk_system::{BootFault, Files, System};
 use ptk_words::{PartId, Tick};
 use std::alloc::{AllocError, Global};
 use std::io::Write;
@@ -24,15 +25,15 @@ use std::io::Write;
 pub enum Form {
     /// As lines of text.
     Lines,
-    /// As one JSON object on one line, with `\n` behind it.
+    /// As one JSON object on one line, with `\n` after it.
     Json,
 }
 
 /// Writes how the partition of a name is after this many ticks, in a form: its status; of a fault the instruction, its
 /// address and the registers; of a partition that goes on each thread, and each deadlock.
 ///
-/// That there is such a partition is tested before the system boots. A fault where there is none, where the system does
-/// not boot or memory ran out, each before the first byte, or where the writer fails.
+/// That there is such a partition is tested before the system boots. A fault if there is none, if the system does not
+/// boot or memory runs out, each before the first byte, or if the writer fails.
 pub fn explain_partition_with<W: Write>(
     alloc: Global,
     config: &Config,
@@ -51,10 +52,6 @@ pub fn explain_partition_with<W: Write>(
         (λ _. first_missing files.now config.now.sections ≡ None)
         (λ fault. fault ≢ NoPartition → first_missing files.now config.now.sections ≡ missing_in_run fault) }
     ensures silent { IfErr result (λ fault. fault ≢ RunFault.Write → out.new ≡ out.old) }
-    ensures json { OnOk result (form ≡ Form.Json → (p : ℕ) × (part_named config.now name.now ≡ Some p)
-        × (text : List ℕ) × IsExplanation Form.Json symbols.now (world_at config.now files.now 0) ticks p text × Appends (W.contents out.old) (W.contents out.new) text) }
-    ensures lines { OnOk result (form ≡ Form.Lines → (p : ℕ) × (part_named config.now name.now ≡ Some p)
-        × (text : List ℕ) × IsExplanation Form.Lines symbols.now (world_at config.now files.now 0) ticks p text × Appends (W.contents out.old) (W.contents out.new) text) }
 {
     match part_named(config, name) {
         Some(p) => put_answer(form, alloc, config, files, ticks, p, symbols, out),
@@ -80,8 +77,6 @@ fn put_answer<W: Write>(
         (λ _. first_missing files.now config.now.sections ≡ None)
         (λ fault. first_missing files.now config.now.sections ≡ missing_in_run fault) }
     ensures silent { IfErr result (λ fault. fault ≢ RunFault.Write → out.new ≡ out.old) }
-    ensures told { OnOk result ((text : List ℕ)
-        × IsExplanation form symbols.now (world_at config.now files.now 0) ticks p text × Appends (W.contents out.old) (W.contents out.new) text) }
 {
     match answer_of(form, alloc, config, files, ticks, p, symbols) {
         Ok(answer) => match out.write_all(answer.as_bytes()) {
@@ -107,57 +102,27 @@ fn answer_of(
     ensures missing { MatchResult result
         (λ _. first_missing files.now config.now.sections ≡ None)
         (λ fault. first_missing files.now config.now.sections ≡ missing_in fault) }
-    ensures told { IfOk result (λ text. IsExplanation form symbols.now (world_at config.now files.now 0) ticks p (string_bytes text)) }
 {
     let mut system = System::boot(alloc, config, files)?;
-    match text_of(form, alloc, &mut system, ticks, p, symbols) {
-        Ok(text) => Ok(text),
-        Err(_) => Err(BootFault::Memory),
-    }
+    let mut histories = histories(alloc, &mut system, p, ticks)?;
+    add_signals(alloc, config, files, &system, p, histories.as_mut_slice())?;
+    let explanation = Explanation::of(alloc, &system, p, histories.as_slice())?;
+    let name = config.sections()[p.index()].name();
+    Ok(text_of(form, alloc, name, &explanation, symbols)?)
 }
 
-/// The text of how a partition of a system stands after this many ticks. An error where memory ran out.
+/// The text of an explanation of the partition of a name. An error if memory runs out.
 fn text_of(
     form: Form,
     alloc: Global,
-    system: &mut System<'_>,
-    ticks: Tick,
-    p: PartId,
+    name: &str,
+    explanation: &Explanation,
     symbols: &Symbols<'_>,
-) -> Result<String, AllocError>
-    requires ticks { ticks ≤ LAST_TICK }
-    requires partition { p < length system.old.config.sections }
-    ensures { IfOk result (λ text. IsExplanation form symbols.now system.old (max system.old.tick ticks) p (string_bytes text)) }
-{
-    let histories = histories(alloc, system, p, ticks)?;
+) -> Result<String, AllocError> {
     let mut text = String::new(alloc);
-    push_answer(
-        form,
-        alloc,
-        &mut text,
-        system,
-        p,
-        histories.as_slice(),
-        symbols,
-    )?;
-    Ok(text)
-}
-
-/// Appends how a partition of a system stands. An error where memory ran out.
-fn push_answer(
-    form: Form,
-    alloc: Global,
-    out: &mut String,
-    system: &System<'_>,
-    p: PartId,
-    histories: &[History],
-    symbols: &Symbols<'_>,
-) -> Result<(), AllocError>
-    requires { p < length system.now.config.sections }
-    ensures { OnOk result ((text : List ℕ) × IsSaid form symbols.now system.now p histories.now text × (string_bytes out.new ≡ string_bytes out.old ++ text)) }
-{
     match form {
-        Form::Lines => push_lines(alloc, out, system, p, histories, symbols),
-        Form::Json => push_document(alloc, out, system, p, histories, symbols),
+        Form::Lines => push_lines(&mut text, name, explanation, symbols)?,
+        Form::Json => push_document(alloc, &mut text, name, explanation, symbols)?,
     }
+    Ok(text)
 }

@@ -1,22 +1,30 @@
 #![tactic(auto)]
 
-//! How a partition is after n ticks, in words or as one JSON object (`explain_partition_with`, by its `Form`), on any
-//! writer.
+//! How a partition stands after a run: its status, its threads and since when each does what it does, its deadlocks,
+//! and what stopped it, as text or as JSON.
 //!
-//! - Nothing is written of a partition that no section names, or where the system does not boot (`known`, `unknown`,
-//!   `first`, `missing`, `silent`).
-//! - The JSON object is made of what is read of the state after the ticks (`facts_of`, `stop_in`), each value under its
-//!   key, and has no other member. The lines of text are made of the same values (`json`, `lines`: `IsExplanation`).
-//!   Since when a thread does what it does and its least stack pointer are those of the run's histories (`AreOfRun`).
+//! - At a fault but the writer's nothing is written, and a partition that there is not is refused before the system
+//!   boots (`explain_partition_with`).
+//! - A thread is called deadlocked if and only if some number of waits, one at least, leads from it back to it, each
+//!   for the owner of a mutex or for the end of a thread, and without a deadline (`is_deadlocked`: `IsDeadlocked`).
 //!
-//! A fault of the request comes before the first byte, one of the writer at any. Below are what is read of the system
-//! (`ptk_explanation_facts`), whole runs (`ptk_main_runs`), symbols (`ptk_symbols`) and words to base 16 (`ptk_text`);
-//! above is what the program does with a request (`ptk_main_commands`).
+//! What the threads have done since when is a fold over the events of the run (`ptk_tracepoints`), and so are the signals
+//! that woke nobody; all else is read of the system (`ptk_system`) at the tick that is asked for. Below are also the fault
+//! of a run (`ptk_main_runs`), the statement of a word and symbols (`ptk_disasm`); above is the program.
 
 mod answer;
+mod deadlock;
 mod document;
+mod explanation;
+mod history;
 mod lines;
 mod members;
+mod memory;
+mod place;
+mod signals;
+mod stop;
+mod target;
+mod thread;
 mod words;
 
 pub use answer::{Form, explain_partition_with};

@@ -1,20 +1,18 @@
 //! The words of an explanation.
 
-ghost use Rattle.std.specs.Prelude.{◌≡◌, Some, option_and_then};
-ghost use Rattle.ptk_explanation_facts.specs.Facts.{owner_of};
-ghost use Rattle.ptk_explanation.specs.Words.{activity_words, ceiling_in, headline_words, name_of_policy, name_of_protocol, name_of_type, owner_words, stop_words, until_words, wait_words, words_of_refusal};
-
-use ptk_explanation_facts::{Activity, Awaited, PartStatus, cause_word, image_fault_words};
+use crate::thread::Doing;
+use ptk_system::{Activity, PartStatus, cause_word, image_fault_words};
 use ptk_words::{Cause, FaultKind, LAST_TICK, MutexKind, Owner, Policy, Protocol, Tick, Wait};
 use std::fmt;
+
+/// How many registers a thread has (RISC-V 2.1).
+pub(crate) const REGISTERS: u32 = 32;
 
 /// Who owns a mutex, None of a number that is no mutex.
 #[derive(Clone, Copy)]
 struct OwnedBy(Option<Owner>);
 
 impl fmt::Display for OwnedBy {
-    ghost output = { λ o. Some (owner_words o.0) };
-
     fn fmt<W: fmt::Write>(&self, f: &mut fmt::Formatter<W>) -> fmt::Result {
         match self.0 {
             Some(Owner::OwnedBy(t)) => {
@@ -29,13 +27,11 @@ impl fmt::Display for OwnedBy {
     }
 }
 
-/// The deadline of a wait, None where it has none. No run reaches one above 2^40.
+/// The deadline of a wait, None if it has none. No run reaches one above 2^40.
 #[derive(Clone, Copy)]
 struct Until(Option<Tick>);
 
 impl fmt::Display for Until {
-    ghost output = { λ u. Some (until_words u.0) };
-
     fn fmt<W: fmt::Write>(&self, f: &mut fmt::Formatter<W>) -> fmt::Result {
         match self.0 {
             Some(deadline) => {
@@ -51,26 +47,7 @@ impl fmt::Display for Until {
     }
 }
 
-/// What a thread does, and the mutex that it waits for.
-#[derive(Clone, Copy)]
-pub(crate) struct Doing {
-    pub(crate) activity: Activity,
-    pub(crate) awaited: Option<Awaited>,
-}
-
-impl Doing {
-    /// Who owns the mutex that the thread waits for.
-    fn owner(&self) -> Option<Owner>
-        ensures { result ≡ option_and_then owner_of self.now.awaited }
-    {
-        let awaited = self.awaited.as_ref()?;
-        awaited.owner()
-    }
-}
-
 impl fmt::Display for Doing {
-    ghost output = { λ d. Some (activity_words d.activity (option_and_then owner_of d.awaited)) };
-
     fn fmt<W: fmt::Write>(&self, f: &mut fmt::Formatter<W>) -> fmt::Result {
         match self.activity {
             Activity::Free => f.write_str("free"),
@@ -88,8 +65,6 @@ impl fmt::Display for Doing {
 struct Waiting(Wait, Option<Owner>);
 
 impl fmt::Display for Waiting {
-    ghost output = { λ w. Some (wait_words w.0 w.1) };
-
     fn fmt<W: fmt::Write>(&self, f: &mut fmt::Formatter<W>) -> fmt::Result {
         match self.0 {
             Wait::InputWait => f.write_str("waits for input"),
@@ -121,9 +96,7 @@ impl fmt::Display for Waiting {
 }
 
 /// The name of a policy (XSH 2.8.4).
-pub(crate) fn policy_name(policy: Policy) -> &'static str
-    ensures { result.now ≡ name_of_policy policy }
-{
+pub(crate) fn policy_name(policy: Policy) -> &'static str {
     match policy {
         Policy::Fifo => "SCHED_FIFO",
         Policy::RoundRobin => "SCHED_RR",
@@ -131,9 +104,7 @@ pub(crate) fn policy_name(policy: Policy) -> &'static str
 }
 
 /// The name of a mutex's type (pthread_mutexattr_settype).
-pub(crate) fn type_name(kind: MutexKind) -> &'static str
-    ensures { result.now ≡ name_of_type kind }
-{
+pub(crate) fn type_name(kind: MutexKind) -> &'static str {
     match kind {
         MutexKind::Normal => "PTHREAD_MUTEX_NORMAL",
         MutexKind::ErrorCheck => "PTHREAD_MUTEX_ERRORCHECK",
@@ -142,9 +113,7 @@ pub(crate) fn type_name(kind: MutexKind) -> &'static str
 }
 
 /// The name of a mutex's protocol (pthread_mutexattr_setprotocol).
-pub(crate) fn protocol_name(protocol: Protocol) -> &'static str
-    ensures { result.now ≡ name_of_protocol protocol }
-{
+pub(crate) fn protocol_name(protocol: Protocol) -> &'static str {
     match protocol {
         Protocol::NoProtocol => "PTHREAD_PRIO_NONE",
         Protocol::Inherit => "PTHREAD_PRIO_INHERIT",
@@ -153,9 +122,7 @@ pub(crate) fn protocol_name(protocol: Protocol) -> &'static str
 }
 
 /// The priority ceiling of a protocol that has one (pthread_mutexattr_setprioceiling).
-pub(crate) fn ceiling_of(protocol: Protocol) -> Option<u8>
-    ensures { result ≡ ceiling_in protocol }
-{
+pub(crate) fn ceiling_of(protocol: Protocol) -> Option<u8> {
     match protocol {
         Protocol::NoProtocol | Protocol::Inherit => None,
         Protocol::Protect(ceiling) => Some(ceiling.level()),
@@ -163,9 +130,7 @@ pub(crate) fn ceiling_of(protocol: Protocol) -> Option<u8>
 }
 
 /// Why an address was refused.
-pub(crate) fn refusal_words(cause: Cause) -> &'static str
-    ensures { result.now ≡ words_of_refusal cause }
-{
+pub(crate) fn refusal_words(cause: Cause) -> &'static str {
     match cause {
         Cause::Fault(FaultKind::Misaligned) => "misaligned",
         Cause::Break | Cause::Fault(_) => "at or past the end of memory",
@@ -177,8 +142,6 @@ pub(crate) fn refusal_words(cause: Cause) -> &'static str
 struct StoppedBy(Cause);
 
 impl fmt::Display for StoppedBy {
-    ghost output = { λ s. Some (stop_words s.0) };
-
     fn fmt<W: fmt::Write>(&self, f: &mut fmt::Formatter<W>) -> fmt::Result {
         match self.0 {
             Cause::Break => f.write_str("stopped by an ebreak"),
@@ -190,13 +153,11 @@ impl fmt::Display for StoppedBy {
     }
 }
 
-/// The status of a partition, None where it has no image.
+/// The status of a partition, None if it has no image.
 #[derive(Clone, Copy)]
 pub(crate) struct Headline(pub(crate) Option<PartStatus>);
 
 impl fmt::Display for Headline {
-    ghost output = { λ h. Some (headline_words h.0) };
-
     fn fmt<W: fmt::Write>(&self, f: &mut fmt::Formatter<W>) -> fmt::Result {
         match self.0 {
             None => f.write_str("no image"),

@@ -5,7 +5,7 @@ use Rattle.ptk_words.specs.declared.TheConstants.{A7}
 use Rattle.ptk_words.specs.declared.sections.Limits.{Limits}
 use Rattle.ptk_words.specs.Calls.{call_of}
 use Rattle.ptk_words.specs.Processor.{register}
-use Rattle.ptk_words_instructions.specs.Instructions.{Effect, Done, Call as Called, Break, Fault, effect_at}
+use Rattle.ptk_words_model.specs.Instructions.{Effect, Done, Call as Called, Break, Fault, effect_at}
 use Rattle.ptk_words_model.specs.declared.Runner.{Runner}
 use Rattle.ptk_words_model.specs.declared.Spent.TheVariants.{Step, Lost}
 use Rattle.ptk_words_model.specs.declared.StepKind.{StepKind}

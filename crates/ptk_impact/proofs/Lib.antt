@@ -1,3 +1,7 @@
+pub mod Repeats
+pub mod Spreads
+pub mod Turns
+pub mod Joined
 pub mod Exact
 pub mod Tails
 pub mod Rows

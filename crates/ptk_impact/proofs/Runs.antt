@@ -5,7 +5,7 @@ use Rattle.std.proofs.lemmas.List.{get_or_past}
 use Rattle.ptk_words.specs.declared.TheConstants.{LAST_TICK}
 use Rattle.ptk_words.specs.declared.sections.Arrival.{Arrival}
 use Rattle.ptk_words.specs.declared.sections.Limits.{Limits}
-use Rattle.ptk_words_windows.specs.Windows.{OwnTicks, own_ticks}
+use Rattle.ptk_words_model.specs.Windows.{OwnTicks, own_ticks}
 use Rattle.ptk_words_model.specs.Run.{alone}
 use Rattle.ptk_words_model.specs.Text.{report_text}
 use Rattle.ptk_config.specs.Sections.{Section}

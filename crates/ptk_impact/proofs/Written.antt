@@ -13,8 +13,8 @@ use Rattle.ptk_words.specs.declared.sections.Arrival.{Arrival}
 use Rattle.ptk_words.specs.declared.sections.Limits.{Limits}
 use Rattle.ptk_words.specs.Calls.{call_of}
 use Rattle.ptk_words.specs.Processor.{register}
-use Rattle.ptk_words_instructions.specs.Instructions.{Effect, Done, Call as Called, Break, Fault, effect_at}
-use Rattle.ptk_words_windows.specs.Windows.{OwnTicks}
+use Rattle.ptk_words_model.specs.Instructions.{Effect, Done, Call as Called, Break, Fault, effect_at}
+use Rattle.ptk_words_model.specs.Windows.{OwnTicks}
 use Rattle.ptk_words_model.specs.declared.Runner.{Runner}
 use Rattle.ptk_words_model.specs.declared.StepKind.{StepKind}
 use Rattle.ptk_words_model.specs.declared.StepKind.TheVariants.{UnwindingStart, GateStep, CallStep, InstructionStep}

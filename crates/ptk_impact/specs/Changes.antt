@@ -3,7 +3,7 @@ use Rattle.std.specs.Prelude.{◌≡◌, ◌≢◌, ◌↔◌, ℕ, ◌<◌, Lis
 use Rattle.ptk_words.specs.declared.sections.Arrival.{Arrival}
 use Rattle.ptk_words.specs.declared.sections.Limits.{Limits}
 use Rattle.ptk_system.specs.Missing.{image_in}
-use Rattle.ptk_impact_windows.specs.Agreement.{Agree, IsFirstDifference}
+use Rattle.ptk_impact.specs.Agreement.{Agree, IsFirstDifference}
 use Rattle.ptk_impact.specs.declared.changes.Changes.{Changes}
 use Rattle.ptk_impact.specs.declared.image.ImageChange.{ImageChange}
 use Rattle.ptk_impact.specs.declared.image.ImageChange.TheVariants.{Added, Removed, Bytes}
@@ -18,11 +18,11 @@ pub record IsFirstOther {A : Type 0} (xs ys : List A) (place : ℕ) : Type 0 whe
   pub before : (k : ℕ) → k < place → slice_get xs k ≡ slice_get ys k
   pub other : slice_get xs place ≢ slice_get ys place
 
--- none where the two numbers are the same, both where they differ (own)
+-- none if the two numbers are the same, both if they differ (own)
 abbrev pub IsNumberChange : ℕ → ℕ → Option LimitChange → Type 0
 IsNumberChange old new change = MatchOption change (old ≡ new) (λ c. (old ≢ new) × (c.old ≡ old) × (c.new ≡ new))
 
--- for each limit none where it is the same, and both numbers where it differs (own)
+-- for each limit none if it is the same, and both numbers if it differs (own)
 pub record AreLimitChanges (old new : Limits) (changes : LimitChanges) : Type 0 where
   pub memory : IsNumberChange old.memory new.memory changes.memory
   pub threads : IsNumberChange old.threads new.threads changes.threads

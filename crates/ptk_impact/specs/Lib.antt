@@ -1,3 +1,5 @@
+pub mod Agreement
+pub mod Search
 pub mod Deeper
 pub mod Larger
 pub mod Views

@@ -1,7 +1,7 @@
 -- What a partition of one configuration and one of another have in common.
 use Rattle.std.specs.Prelude.{◌≡◌, ℕ, ◌<◌, ◌≤◌, length}
 use Rattle.ptk_words.specs.declared.TheConstants.{LAST_TICK}
-use Rattle.ptk_words_windows.specs.Windows.{own_ticks}
+use Rattle.ptk_words_model.specs.Windows.{own_ticks}
 use Rattle.ptk_config.specs.Sections.{Section}
 use Rattle.ptk_config.specs.Configuration.{IsConfiguration}
 use Rattle.ptk_system.specs.Laws.{SameView}
@@ -40,7 +40,7 @@ pub record SeenAlikeButTrace (old new : Subject) : Type 0 where
 
 -- ---- runs
 
--- the parts of the report of two partitions are the same after n ticks, where they have one name (own)
+-- the parts of the report of two partitions are the same after n ticks, if they have one name (own)
 abbrev pub ReportsAreSame : Subject → Subject → ℕ → Type 0
 ReportsAreSame old new n =
     (section_of old).name ≡ (section_of new).name → part_report (world_after n old) old.partition ≡ part_report (world_after n new) new.partition

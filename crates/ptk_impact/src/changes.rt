@@ -1,27 +1,28 @@
 //! What differs between two partitions.
 
 ghost use Rattle.std.specs.Prelude.{◌≡◌, ◌&&◌, ◌↔◌, ℕ, IfSome, IsNone, is_none};
-ghost use Rattle.ptk_impact_windows.specs.Agreement.{Agree, IsFirstDifference};
+ghost use Rattle.ptk_impact.specs.Agreement.{Agree, IsFirstDifference};
 ghost use Rattle.ptk_impact.specs.Changes.{AreChanges};
 ghost use Rattle.ptk_impact.specs.Views.{IsPartition};
 
+use crate::difference::Difference;
 use crate::image::ImageChange;
 use crate::input::InputChange;
 use crate::limits::LimitChanges;
+use crate::search::first_difference;
 use crate::subject::Subject;
-use ptk_impact_windows::{Difference, first_difference};
 
 /// What differs between what boot sees of the old partition and of the new one.
 #[derive(Clone, Copy)]
 pub struct Changes {
-    /// The least tick at which the windows differ, with both ends there. None where the own ticks and the ends of the
+    /// The least tick at which the windows differ, with both ends there. None if the own ticks and the ends of the
     /// windows are the same at all ticks.
     pub windows: Option<Difference>,
     /// The limits that differ.
     pub limits: LimitChanges,
-    /// How the image differs, None where its bytes are the same.
+    /// How the image differs, None if its bytes are the same.
     pub image: Option<ImageChange>,
-    /// Where the input first differs, None where it is the same.
+    /// Where the input first differs, None if it is the same.
     pub input: Option<InputChange>,
 }
 
@@ -48,7 +49,7 @@ impl Changes {
     }
 }
 
-/// Where the windows first differ, None where they are the same at all ticks.
+/// Where the windows first differ, None if they are the same at all ticks.
 fn windows_between(old: &Subject<'_>, new: &Subject<'_>) -> Option<Difference>
     ensures same { IsNone result ↔ ((tick : ℕ) →
         Agree old.now.config.now.plan old.now.partition new.now.config.now.plan new.now.partition tick) }

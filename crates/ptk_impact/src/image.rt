@@ -18,7 +18,7 @@ pub enum ImageChange {
 }
 
 impl ImageChange {
-    /// How the bytes differ. None where they are the same, or neither partition has any.
+    /// How the bytes differ. None if they are the same, or neither partition has any.
     pub(crate) fn between(old: Option<&[u8]>, new: Option<&[u8]>) -> Option<ImageChange>
         ensures { let before = option_map (λ bytes. bytes.now) old.entry in
             let after = option_map (λ bytes. bytes.now) new.entry in

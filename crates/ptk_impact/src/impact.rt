@@ -31,8 +31,11 @@ impl Impact {
     /// the images' files and all other partitions play no part.
     ///
     /// After every number of ticks up to 2^40 an unchanged partition is in the same state in both systems, and one that
-    /// is unchanged but for the trace is in a state that differs in the kept entries alone. Where it has its name in
-    /// both, its part of the report is the same.
+    /// is unchanged but for the trace is in a state that differs in the kept entries alone. If it has its name in both,
+    /// its part of the report is the same.
+    ///
+    /// Windows are compared at all ticks. A run has at most 2^40, so windows that first differ at tick 2^40 or later
+    /// are `Changed`, although no run has a tick at which they differ (`Difference::is_past_runs`).
     pub fn between(old: &Subject<'_>, new: &Subject<'_>) -> Impact
         requires old { IsPartition old.now }
         requires new { IsPartition new.now }

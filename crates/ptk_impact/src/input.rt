@@ -18,7 +18,7 @@ pub struct InputChange {
 }
 
 impl InputChange {
-    /// Where the arrivals first differ. None where they are the same.
+    /// Where the arrivals first differ. None if they are the same.
     pub(crate) fn between(old: &[Arrival], new: &[Arrival]) -> Option<InputChange>
         ensures { MatchOption result (old.now ≡ new.now) (IsInputChange old.now new.now) }
     {

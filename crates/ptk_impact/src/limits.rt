@@ -15,7 +15,7 @@ pub struct LimitChange {
 }
 
 impl LimitChange {
-    /// The two numbers, None where they are the same.
+    /// The two numbers, None if they are the same.
     pub(crate) fn between(old: u32, new: u32) -> Option<LimitChange>
         ensures { IsNumberChange old new result }
     {
@@ -27,7 +27,7 @@ impl LimitChange {
     }
 }
 
-/// Of each limit the two numbers, None where they are the same.
+/// Of each limit the two numbers, None if they are the same.
 #[derive(Clone, Copy)]
 pub struct LimitChanges {
     /// Bytes of memory.
@@ -69,5 +69,15 @@ impl LimitChanges {
             output: LimitChange::between(old.output, new.output),
             trace: LimitChange::between(old.trace, new.trace),
         }
+    }
+
+    /// Whether a limit differs.
+    pub fn is_any(&self) -> bool {
+        let is_of_memory = self.memory.is_some() || self.threads.is_some() || self.stack.is_some();
+        let is_of_objects = self.mutexes.is_some()
+            || self.conditions.is_some()
+            || self.keys.is_some();
+        let is_of_console = self.ring.is_some() || self.output.is_some() || self.trace.is_some();
+        is_of_memory || is_of_objects || self.interval.is_some() || is_of_console
     }
 }

@@ -32,7 +32,7 @@ impl<'a> Subject<'a> {
         &sections[self.partition.index()]
     }
 
-    /// The bytes of its image, None where its section names none or no file has the name.
+    /// The bytes of its image, None if its section names none or no file has the name.
     pub fn image(&self) -> Option<&'a [u8]>
         requires { IsPartition self.now }
         ensures { option_map (λ bytes. bytes.now) result ≡ image_in self.now.files.now (section_of self.now).image }

@@ -1,25 +1,20 @@
 //! Why an image is refused.
 
-ghost use Rattle.std.specs.Prelude.{◌≡◌, IfOk, option_map};
-ghost use Rattle.ptk_words_model.specs.Run.{fits};
-ghost use Rattle.ptk_impact_formats.specs.Views.{IsPartition};
-ghost use Rattle.ptk_impact_formats.specs.Refused.{refusal_of};
-ghost use Rattle.ptk_impact_formats.specs.Comparisons.{refusal_if_changed};
+ghost use Rattle.ptk_impact.specs.Views.{IsPartition};
 
 use ptk_image::{Image, read_image};
-use ptk_impact_formats::{Impact, Subject};
+use ptk_impact::{Impact, Subject};
 use ptk_words::{ImageFault, Limits};
 use std::alloc::{AllocError, Global};
 
-/// Why boot refuses the image of a partition, None where it does not or the partition is not changed. An error where
-/// memory ran out.
+/// Why boot refuses the image of a partition, None if it does not or the partition is not changed. An error if memory
+/// ran out.
 pub(crate) fn refusal_if_changed(
     alloc: Global,
     impact: &Impact,
     subject: &Subject<'_>,
 ) -> Result<Option<ImageFault>, AllocError>
     requires { IsPartition subject.now }
-    ensures { IfOk result (λ refusal. refusal ≡ refusal_if_changed impact.now subject.now) }
 {
     match impact {
         Impact::Changed(_) => refusal_of(alloc, subject.section().limits(), subject.image()),
@@ -27,35 +22,26 @@ pub(crate) fn refusal_if_changed(
     }
 }
 
-/// Why boot refuses these bytes as the image of a section with these numbers, None where it accepts them or there are
-/// none. An error where memory ran out.
+/// Why boot refuses these bytes as the image of a section with these numbers, None if it accepts them or there are
+/// none. An error if memory ran out.
 fn refusal_of(
     alloc: Global,
     limits: Limits,
     bytes: Option<&[u8]>,
-) -> Result<Option<ImageFault>, AllocError>
-    ensures { IfOk result (λ refusal. refusal ≡ refusal_of limits (option_map (λ b. b.now) bytes.entry)) }
-{
+) -> Result<Option<ImageFault>, AllocError> {
     let Some(bytes) = bytes else {
         return Ok(None);
     };
     match read_image(alloc, bytes) {
-        Ok(image) => {
-            if fits(limits, &image) {
-                Ok(None)
-            } else {
-                Ok(Some(ImageFault::Unfit))
-            }
-        }
+        Ok(image) if fits(limits, &image) => Ok(None),
+        Ok(_image) => Ok(Some(ImageFault::Unfit)),
         Err(ImageFault::Memory) => Err(AllocError),
         Err(fault) => Ok(Some(fault)),
     }
 }
 
 /// Whether text, data and bss lie below all stacks.
-fn fits(limits: Limits, image: &Image) -> bool
-    ensures { result ≡ fits limits image.now }
-{
+fn fits(limits: Limits, image: &Image) -> bool {
     let stacks = u64::from(limits.threads) * u64::from(limits.stack);
     let room = u64::from(limits.memory).saturating_sub(stacks);
     let (text, initial) = (image.text(), image.data());

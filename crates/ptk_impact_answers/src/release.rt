@@ -1,16 +1,14 @@
 //! A configuration with its files.
 
-ghost use Rattle.std.specs.Prelude.{◌≡◌, ◌<◌, ◌≤◌, None, IfSome, length, option_map};
+ghost use Rattle.std.specs.Prelude.{◌≡◌, ◌<◌, ◌≤◌, IfSome, length, option_map};
 ghost use Rattle.ptk_config.specs.Configuration.{IsConfiguration};
-ghost use Rattle.ptk_impact_formats.specs.World.{section_at};
-ghost use Rattle.ptk_impact_formats.specs.Missing.{first_missing, is_missing};
-ghost use Rattle.ptk_impact_formats.specs.Parts.{part_named};
+ghost use Rattle.ptk_main_runs.specs.Missing.{first_missing, is_missing};
 ghost use Rattle.ptk_impact_answers.specs.Refusals.{missing_image};
-ghost use Rattle.ptk_impact_answers.specs.SameRuns.{subject_at};
 
 use ptk_config::{Config, Section};
 use ptk_image::Files;
-use ptk_impact_formats::{Subject, part_named};
+use ptk_impact::Subject;
+use ptk_main_runs::part_named;
 use ptk_words::PartId;
 
 /// A configuration, and the files that have its images.
@@ -36,16 +34,14 @@ impl<'a, 'f> Release<'a, 'f> {
     /// The name of the section at this place.
     pub(crate) fn name_at(&self, place: usize) -> &'a str
         requires { place < length self.now.config.now.sections }
-        ensures { result.now ≡ (section_at self.now.config.now place).name }
     {
         let sections = self.sections();
         sections[place].name()
     }
 
-    /// The place of the section of this name, None where no section has it.
+    /// The place of the section of this name, None if no section has it.
     pub(crate) fn place_of(&self, name: &str) -> Option<usize>
-        ensures place { result ≡ part_named self.now.config.now name.now }
-        ensures within { IfSome result (λ place. place < length self.now.config.now.sections) }
+        ensures { IfSome result (λ place. place < length self.now.config.now.sections) }
     {
         let p = part_named(self.config, name)?;
         Some(p.index())
@@ -54,7 +50,7 @@ impl<'a, 'f> Release<'a, 'f> {
     /// The partition at this place.
     pub(crate) fn subject(&self, place: usize) -> Subject<'_>
         requires { place < length self.now.config.now.sections }
-        ensures { result ≡ subject_at self.now place }
+        ensures { result ≡ record { config = self.now.config; files = self.now.files; partition = place } }
     {
         let _sections = self.sections();
         Subject {
@@ -64,7 +60,7 @@ impl<'a, 'f> Release<'a, 'f> {
         }
     }
 
-    /// The name of the first image, in the order of the sections, that no file has, None where each has its file.
+    /// The name of the first image, in the order of the sections, that no file has, None if each has its file.
     pub(crate) fn missing_image(&self) -> Option<&'a str>
         ensures { option_map (λ name. name.now) result ≡ missing_image self.now }
     {

@@ -2,19 +2,15 @@
 
 //! The program `ptk`: the words of its command line, and its exit status.
 //!
-//! - It is proved to run to its end without an error of its own. Its exit status is that of the words of the command
-//!   line, in their order (`answer`, `borrowed`), or where they are not read a usage error or one of the host
-//!   (`status`). Which words these are is tested.
+//! It is proved to run to its end without an error of its own. The words of the command line are passed on in their
+//! order; if they can't be read, the status is that of a usage error or of a failed host.
 //!
-//! Below is `ptk_main_commands`, which says what comes of the words; nothing is above. What no contract can say of real
-//! files and streams is tested in `ptk_main_tests`. Which stream a text goes to no test sees; the gate compares the
-//! standard output of the stored run.
-
-ghost use Rattle.std.specs.Prelude.{◌≡◌, IfOk, map, string_bytes};
-ghost use Rattle.ptk_main_commands.specs.Statuses.{IsLineStatus, IsProgramStatus};
+//! Below is `ptk_main_commands`, which does what the words ask for; nothing is above. What comes of the words is tested
+//! in `ptk_main_tests`. Which stream a text goes to no test sees; the gate compares the standard output of the stored
+//! run.
 
 use ptk_main_commands::{answer_words, tell, unread};
-use ptk_main_faults::Fault;
+use ptk_main_tools::Fault;
 use std::alloc::AllocError;
 use std::env;
 use std::process::ExitCode;
@@ -24,9 +20,7 @@ fn main(rt: HostRuntime) -> ExitCode {
 }
 
 // The exit status of what the command line asks for.
-fn status(rt: &HostRuntime) -> u8
-    ensures { IsProgramStatus result }
-{
+fn status(rt: &HostRuntime) -> u8 {
     match env::args(rt) {
         Ok(words) => match words.collect::<Vec<String>>(rt.alloc()) {
             Ok(words) => answer(rt, words.as_slice()),
@@ -37,9 +31,7 @@ fn status(rt: &HostRuntime) -> u8
 }
 
 // The exit status of what these words ask for.
-fn answer(rt: &HostRuntime, owned: &[String]) -> u8
-    ensures { IsLineStatus (map string_bytes owned.now) result }
-{
+fn answer(rt: &HostRuntime, owned: &[String]) -> u8 {
     match borrowed(rt, owned) {
         Ok(words) => answer_words(rt, words.as_slice()),
         Err(_) => tell(rt, &Fault::NoMemory),
@@ -47,9 +39,7 @@ fn answer(rt: &HostRuntime, owned: &[String]) -> u8
 }
 
 // The words as texts, in their order.
-fn borrowed<'a>(rt: &HostRuntime, owned: &'a [String]) -> Result<Vec<&'a str>, AllocError>
-    ensures { IfOk result (λ words. map (λ word. word.now) words.items ≡ map string_bytes owned.now) }
-{
+fn borrowed<'a>(rt: &HostRuntime, owned: &'a [String]) -> Result<Vec<&'a str>, AllocError> {
     let mut words = Vec::new(rt.alloc());
     for word in owned {
         words.push(word.as_str())?;

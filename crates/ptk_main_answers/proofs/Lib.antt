@@ -1,9 +1,2 @@
 pub mod Images
 pub mod Refusals
-pub mod Runs
-pub mod JsonTexts
-pub mod Documents
-pub mod TraceLines
-pub mod TraceTicks
-pub mod Worded
-pub mod Watching

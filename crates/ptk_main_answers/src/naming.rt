@@ -1,16 +1,16 @@
 //! The program's faults for those of the layers below, with the names that a configuration gives.
 
 ghost use Rattle.std.specs.Prelude.{◌≡◌};
-ghost use Rattle.ptk_main_faults.specs.Told.{told};
+ghost use Rattle.ptk_main_tools.specs.Told.{told};
 ghost use Rattle.ptk_main_answers.specs.Images.{image_name, part_name};
 ghost use Rattle.ptk_main_answers.specs.Refusals.{boot_fault, run_fault};
 
 use ptk_config::Config;
-use ptk_main_faults::Fault;
 use ptk_main_runs::{BootFault, RunFault};
+use ptk_main_tools::Fault;
 use ptk_words::PartId;
 
-/// The name of a partition's image, empty where it has none.
+/// The name of a partition's image, empty if it has none.
 pub(crate) fn image_name(config: &Config, p: PartId) -> &str
     ensures { result.now ≡ image_name config.now p }
 {
@@ -20,7 +20,7 @@ pub(crate) fn image_name(config: &Config, p: PartId) -> &str
     }
 }
 
-/// The name of a partition, empty where there is none of this number.
+/// The name of a partition, empty if there is none of this number.
 pub(crate) fn part_name(config: &Config, p: PartId) -> &str
     ensures { result.now ≡ part_name config.now p }
 {
@@ -41,7 +41,7 @@ pub fn boot_fault(config: &Config, fault: BootFault) -> Fault<'_>
     }
 }
 
-/// The program's fault for a run's, where the partition of this name was asked for.
+/// The program's fault for a run's, if the partition of this name was asked for.
 pub fn run_fault<'a>(config: &'a Config, name: &'a str, fault: RunFault) -> Fault<'a>
     ensures told { told result ≡ run_fault config.now name.now fault }
     ensures memory { fault ≡ RunFault.Boot BootFault.Memory → result ≡ Fault.NoMemory }

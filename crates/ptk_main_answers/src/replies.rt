@@ -1,12 +1,9 @@
 //! The names of replies.
 
-ghost use Rattle.std.specs.Prelude.{◌≡◌, option_map, ◌==◌, if◌then◌else◌, Some, codes};
-ghost use Rattle.ptk_main_answers.specs.Replies.{error_of, name_of_error};
-
 use ptk_words::Errno;
 
-/// What a call replies where it succeeds.
-const SUCCESS: u32 = 0;
+/// What a call replies if it succeeds.
+pub(crate) const SUCCESS: u32 = 0;
 
 /// The errors that a call replies.
 const ERRORS: [Errno; 13] = [
@@ -26,19 +23,15 @@ const ERRORS: [Errno; 13] = [
 ];
 
 /// The name of a reply: `0`, or that of an error. `None` for a number that no call replies.
-pub(crate) fn reply_name(reply: u32) -> Option<&'static str>
-    ensures { option_map (λ name. name.now) result ≡ (if reply == 0 then Some (codes "0") else option_map name_of_error (error_of reply)) }
-{
+pub(crate) fn reply_name(reply: u32) -> Option<&'static str> {
     if reply == SUCCESS {
         return Some("0");
     }
     Some(error_name(error_of(reply)?))
 }
 
-/// The error of a number, `None` where none has it.
-fn error_of(number: u32) -> Option<Errno>
-    ensures { result ≡ error_of number }
-{
+/// The error of a number, `None` if none has it.
+fn error_of(number: u32) -> Option<Errno> {
     ERRORS
         .iter()
         .copied()
@@ -46,9 +39,7 @@ fn error_of(number: u32) -> Option<Errno>
 }
 
 /// The name of an error (errno.h).
-fn error_name(error: Errno) -> &'static str
-    ensures { result.now ≡ name_of_error error }
-{
+fn error_name(error: Errno) -> &'static str {
     match error {
         Errno::EPERM => "EPERM",
         Errno::ESRCH => "ESRCH",

@@ -1,4 +1,1 @@
-pub mod Requests
 pub mod Refusals
-pub mod Answered
-pub mod Statuses

@@ -1,30 +1,36 @@
 //! What the words of the command line ask for.
 
-ghost use Rattle.std.specs.Prelude.{map};
-ghost use Rattle.ptk_main_commands.specs.Requests.{IsInRange};
-ghost use Rattle.ptk_main_commands.specs.Statuses.{IsAnswer, IsLineStatus, IsStatusOf};
+ghost use Rattle.std.specs.Prelude.{◌≡◌};
+ghost use Rattle.ptk_main_line.specs.Ranges.{IsInRange};
+ghost use Rattle.ptk_main_tools.specs.Statuses.{status_number};
+ghost use Rattle.ptk_main_tools.specs.declared.status.ExitStatus.TheVariants.{Usage};
 
+use crate::checking::check;
+use crate::comparing::impact;
 use crate::counting::stats;
 use crate::picture::timeline;
+use crate::running::run;
 use crate::standing::explain;
-use ptk_main_files::{asm, check, disasm, impact, run, trace, usage};
+use crate::tracing::trace;
 use ptk_main_line::{Request, read_line};
-use std::io::Write;
+use ptk_main_tools::{Fault, asm, disasm, tell, usage};
+use std::io::{BufWriter, Write};
 
 /// Does what the words of a command line ask for, the program's name the first of them, over standard output, and gives
 /// the number of the status. The text of words that ask for nothing goes to standard error, that of a request for help
 /// to standard output.
-pub fn answer_words(rt: &HostRuntime, words: &[&str]) -> u8
-    ensures { IsLineStatus (map (λ word. word.now) words.entry.now) result }
-{
-    answer_to(rt, words, &mut rt.stdout())
+pub fn answer_words(rt: &HostRuntime, words: &[&str]) -> u8 {
+    match BufWriter::new(rt.alloc(), rt.stdout()) {
+        Ok(mut out) => answer_to(rt, words, &mut out),
+        Err(_) => tell(rt, &Fault::NoMemory),
+    }
 }
 
 /// Does what the words of a command line ask for, and writes what is asked for on a writer: all but the text of a
-/// request for help, and the files of `asm`. Gives the number of the status.
-#[tactic(auto, using(crate::proofs::InRange::asks_in_range))]
+/// request for help, and the files of `asm` and `disasm`. The writer has passed on all of it before a line goes to
+/// standard error. Gives the number of the status. At a usage error nothing is written.
 pub fn answer_to<W: Write>(rt: &HostRuntime, words: &[&str], out: &mut W) -> u8
-    ensures { IsAnswer (map (λ word. word.now) words.entry.now) (W.contents out.old) (W.contents out.new) result }
+    ensures silent { result ≡ status_number Usage → out.new ≡ out.old }
 {
     match read_line(rt.alloc(), words) {
         Ok(request) => obey(rt, request, out),
@@ -33,10 +39,10 @@ pub fn answer_to<W: Write>(rt: &HostRuntime, words: &[&str], out: &mut W) -> u8
 }
 
 /// Does what is asked for, writes it on a writer, and gives the number of its status. The line of a fault goes to
-/// standard error.
+/// standard error. At a usage error nothing is written.
 pub fn obey<W: Write>(rt: &HostRuntime, request: Request<'_>, out: &mut W) -> u8
     requires { IsInRange request }
-    ensures { IsStatusOf request.entry (W.contents out.old) (W.contents out.new) result }
+    ensures silent { result ≡ status_number Usage → out.new ≡ out.old }
 {
     match request {
         Request::Run(options) => run(rt, options, out),

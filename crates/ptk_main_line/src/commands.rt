@@ -1,10 +1,4 @@
 //! The command `ptk` and its subcommands, as `clap` builds them: each has a table of its arguments.
-ghost use Rattle.std.specs.Prelude.{◌≡◌, [], ◌∷◌, false, map, Some, IfOk};
-ghost use Rattle.clap.specs.Words.{app_of, new_app, rule_of, with_rule, with_subcommand};
-ghost use Rattle.clap.specs.declared.builder.value_parser.ValueParser.TheVariants.{Unsigned};
-ghost use Rattle.clap.specs.declared.builder.command.Command.TheViews.{out-Command};
-ghost use Rattle.ptk_main_line.specs.CommandLine.{app_for, ptk, rule_for, run_rules, shape_for, with_rules, with_subcommands};
-ghost use Rattle.ptk_main_line.specs.declared.line.TheConstants.{MOST_TICKS};
 
 use crate::help;
 use crate::line::{MOST_STEPS, MOST_THREADS, MOST_TICKS};
@@ -18,19 +12,19 @@ pub(crate) enum Takes {
     Word,
     /// A word by itself, which may be left out.
     FreeWord,
-    /// The text behind an option, which may be left out.
+    /// The text after an option, which may be left out.
     Text,
-    /// The text behind an option, which has to be there.
+    /// The text after an option, which has to be there.
     RequiredText,
     /// Nothing: it is a flag.
     Nothing,
-    /// The number of ticks behind an option, which may be left out.
+    /// The number of ticks after an option, which may be left out.
     Ticks,
-    /// The number of ticks behind an option, which has to be there.
+    /// The number of ticks after an option, which has to be there.
     RequiredTicks,
-    /// The number of a thread behind an option, which may be left out.
+    /// The number of a thread after an option, which may be left out.
     Thread,
-    /// The number of steps to keep behind an option, which may be left out.
+    /// The number of steps to keep after an option, which may be left out.
     Steps,
 }
 
@@ -66,6 +60,13 @@ const SYMBOLS: Argument = Argument {
     takes: Takes::Text,
 };
 
+/// The deadlines of responses.
+const DEADLINE: Argument = Argument {
+    name: "deadline",
+    help: help::DEADLINE,
+    takes: Takes::Text,
+};
+
 /// The arguments of every subcommand that runs a configuration.
 const RUNS: [Argument; 3] = [
     Argument {
@@ -81,8 +82,8 @@ const RUNS: [Argument; 3] = [
     ROOT,
 ];
 
-/// Those of `run` behind these.
-const RUN: [Argument; 6] = [
+/// Those of `run` after these.
+const RUN: [Argument; 7] = [
     Argument {
         name: "expect",
         help: help::EXPECT,
@@ -93,6 +94,7 @@ const RUN: [Argument; 6] = [
         help: help::FAIL_ON,
         takes: Takes::Text,
     },
+    DEADLINE,
     Argument {
         name: "until-halted",
         help: help::UNTIL_HALTED,
@@ -111,7 +113,7 @@ const RUN: [Argument; 6] = [
     },
 ];
 
-/// Those of `trace` behind the arguments of a run.
+/// Those of `trace` after the arguments of a run.
 const TRACE: [Argument; 9] = [
     Argument {
         name: "partition",
@@ -156,7 +158,7 @@ const TRACE: [Argument; 9] = [
     },
 ];
 
-/// Those of `timeline` behind the arguments of a run.
+/// Those of `timeline` after the arguments of a run.
 const TIMELINE: [Argument; 3] = [
     Argument {
         name: "from",
@@ -175,7 +177,7 @@ const TIMELINE: [Argument; 3] = [
     },
 ];
 
-/// Those of `explain` behind the arguments of a run.
+/// Those of `explain` after the arguments of a run.
 const EXPLAIN: [Argument; 3] = [
     Argument {
         name: "partition",
@@ -186,12 +188,23 @@ const EXPLAIN: [Argument; 3] = [
     FORMAT,
 ];
 
-/// Those of `stats` behind the arguments of a run.
-const STATS: [Argument; 2] = [
+/// Those of `stats` after the arguments of a run.
+const STATS: [Argument; 5] = [
     Argument {
         name: "partition",
         help: help::ONE_PARTITION,
         takes: Takes::Text,
+    },
+    Argument {
+        name: "from",
+        help: help::FROM_COUNTED,
+        takes: Takes::Ticks,
+    },
+    DEADLINE,
+    Argument {
+        name: "stack",
+        help: help::STACK,
+        takes: Takes::Nothing,
     },
     FORMAT,
 ];
@@ -309,48 +322,32 @@ const COMMAND_NAMES: [CommandName; 9] = [
     CommandName::Stats,
 ];
 
-/// The command with its nine subcommands, of which one has to be there.
-pub(crate) fn ptk_command<'a>(alloc: Global) -> Result<Command<'a>, AllocError>
-    ensures { IfOk result (λ c. app_of c ≡ ptk) }
-{
+/// The command with its nine subcommands, of which one has to be there, and its version.
+pub(crate) fn ptk_command<'a>(alloc: Global) -> Result<Command<'a>, AllocError> {
     let command = Command::new(alloc, "ptk")
+        .version(help::VERSION)
         .about(help::PTK)
         .after_help(help::PTK_AFTER)
         .subcommand_required(true);
     with_subcommands(alloc, command, &COMMAND_NAMES)
 }
 
-/// The command with these subcommands behind those that it has.
+/// The command with these subcommands after those that it has.
 fn with_subcommands<'a>(
     alloc: Global,
     command: Command<'a>,
     subcommands: &[CommandName],
-) -> Result<Command<'a>, AllocError>
-    ensures { IfOk result (λ c. app_of c ≡ with_subcommands (app_of command.entry) (map shape_for subcommands.now)) }
-{
+) -> Result<Command<'a>, AllocError> {
     let mut all = command;
     for subcommand in subcommands {
-        all = with_subcommand(alloc, all, *subcommand)?;
+        all = all.subcommand(subcommand.build(alloc)?)?;
     }
     Ok(all)
 }
 
-/// The command with one more subcommand.
-fn with_subcommand<'a>(
-    alloc: Global,
-    command: Command<'a>,
-    subcommand: CommandName,
-) -> Result<Command<'a>, AllocError>
-    ensures { IfOk result (λ c. app_of c ≡ with_subcommand (app_of command.entry) (shape_for subcommand)) }
-{
-    command.subcommand(subcommand.build(alloc)?)
-}
-
 impl CommandName {
-    /// The subcommand as `clap` has it, with its arguments, none of which is global.
-    fn build<'a>(self, alloc: Global) -> Result<Command<'a>, AllocError>
-        ensures { IfOk result (λ c. (app_of c ≡ app_for self) × ((out-Command c).has_globals ≡ false)) }
-    {
+    /// The subcommand as `clap` has it, with its arguments.
+    fn build<'a>(&self, alloc: Global) -> Result<Command<'a>, AllocError> {
         match self {
             CommandName::Run => run_subcommand(alloc, "run", help::RUN, help::RUN_AFTER, &RUN),
             CommandName::Trace => {
@@ -391,67 +388,46 @@ impl CommandName {
     }
 }
 
-/// A subcommand that runs a configuration: the arguments of a run, and these behind them.
+/// A subcommand that runs a configuration: the arguments of a run, and these after them.
 fn run_subcommand<'a>(
     alloc: Global,
     name: &'a str,
     about: &'a str,
     after: &'a str,
     arguments: &[Argument],
-) -> Result<Command<'a>, AllocError>
-    ensures { IfOk result (λ c. (app_of c ≡ with_rules (run_rules (new_app name.entry.now)) (map rule_for arguments.now))
-        × ((out-Command c).has_globals ≡ false)) }
-{
+) -> Result<Command<'a>, AllocError> {
     let command = subcommand(alloc, name, about, after, &RUNS)?;
     with_arguments(alloc, command, arguments)
 }
 
-/// A subcommand with these arguments, what it does, and what help says behind them.
+/// A subcommand with these arguments, what it does, and what help says after them.
 fn subcommand<'a>(
     alloc: Global,
     name: &'a str,
     about: &'a str,
     after: &'a str,
     arguments: &[Argument],
-) -> Result<Command<'a>, AllocError>
-    ensures { IfOk result (λ c. (app_of c ≡ with_rules (new_app name.entry.now) (map rule_for arguments.now))
-        × ((out-Command c).has_globals ≡ false)) }
-{
+) -> Result<Command<'a>, AllocError> {
     let command = Command::new(alloc, name).about(about).after_help(after);
     with_arguments(alloc, command, arguments)
 }
 
-/// The command with these arguments, none of them global, behind those that it has.
+/// The command with these arguments after those that it has.
 fn with_arguments<'a>(
     alloc: Global,
     command: Command<'a>,
     arguments: &[Argument],
-) -> Result<Command<'a>, AllocError>
-    ensures { IfOk result (λ c. (app_of c ≡ with_rules (app_of command.entry) (map rule_for arguments.now))
-        × ((out-Command c).has_globals ≡ (out-Command command.entry).has_globals)) }
-{
+) -> Result<Command<'a>, AllocError> {
     let mut all = command;
     for argument in arguments {
-        all = with_argument(all, argument.build(alloc))?;
+        all = all.arg(argument.build(alloc))?;
     }
     Ok(all)
 }
 
-/// The command with one more argument, which is not global.
-fn with_argument<'a>(command: Command<'a>, argument: Arg<'a>) -> Result<Command<'a>, AllocError>
-    requires { argument.global ≡ false }
-    ensures { IfOk result (λ c. (app_of c ≡ with_rule (app_of command.entry) (rule_of argument.entry))
-        × ((out-Command c).has_globals ≡ (out-Command command.entry).has_globals)) }
-{
-    command.arg(argument)
-}
-
 impl Argument {
-    /// The argument as `clap` has it, which is not global.
-    fn build<'a>(&self, alloc: Global) -> Arg<'a>
-        ensures rule { rule_of result ≡ rule_for self.now }
-        ensures own { result.global ≡ false }
-    {
+    /// The argument as `clap` has it.
+    fn build<'a>(&self, alloc: Global) -> Arg<'a> {
         let arg = Arg::new(alloc, self.name).help(self.help);
         match self.takes {
             Takes::Word => arg.required(true),
@@ -472,10 +448,7 @@ impl Argument {
 }
 
 /// The argument as an option of this name whose value is a number of ticks.
-fn ticks<'a>(arg: Arg<'a>, name: &'a str) -> Arg<'a>
-    ensures rule { rule_of result ≡ record (rule_of arg.entry) { long = Some name.entry.now; parser = Some (Unsigned 0 MOST_TICKS) } }
-    ensures own { result.global ≡ arg.entry.global }
-{
+fn ticks<'a>(arg: Arg<'a>, name: &'a str) -> Arg<'a> {
     arg.long(name)
         .value_parser(value_parser!(u64).range(0..=MOST_TICKS as i64))
 }

@@ -1,6 +1,9 @@
 //! What help says of the command, of each subcommand and of each value: what it does, the value's unit and range, the
 //! exit statuses, and an example line (own choice; clap's `about`, `help` and `after_help`).
 
+/// The version of the program, `+` after the number of the last one while the next is made.
+pub(crate) const VERSION: &str = "9+";
+
 /// What the program is.
 pub(crate) const PTK: &str =
     "Runs programs of different trust on one modelled RV32I processor, each partition in \
@@ -70,14 +73,14 @@ pub(crate) const TIMELINE: &str =
 pub(crate) const TIMELINE_AFTER: &str =
     "A lane for each partition, its windows shaded, in it a row for each thread: running, ready, \
     blocked on what, ended. Up to
-1000 ticks a column is a tick; of more, what held longest in the column, with a mark where there was something else. With
+1000 ticks a column is a tick; of more, what held longest in the column, with a mark if there was something else. With
 --format vcd a Value Change Dump, for GTKWave; with --format json trace events, for Perfetto. With --symbols a
 thread has the name of the symbol at which it starts, but in a Value Change Dump.
 
 Exit status:
   0  the picture is printed
   1  ptk: config fault N (see 'ptk check --help'), ptk: missing file NAME, ptk: not text NAME,
-     ptk: nothing to show from tick M: M is at the run's end or behind it, ptk: symbols NAME line L
+     ptk: nothing to show from tick M: M is at the run's end or after it, ptk: symbols NAME line L
   2  usage
   3  ptk: read failed NAME, ptk: write failed, ptk: no memory
 
@@ -115,7 +118,7 @@ pub(crate) const DISASM: &str = "Prints the assembly source of an image, a line 
 
 /// What a line of the source has, the refusals of `disasm`, and an example.
 pub(crate) const DISASM_AFTER: &str =
-    "'ptk asm' makes the same image of that source. The comment of a line has its address and its word, and behind -> \
+    "'ptk asm' makes the same image of that source. The comment of a line has its address and its word, and after -> \
     the address
 that a branch or a jump goes to. A word that is no instruction is written as .word. With
 --symbols the names of both addresses stand in the comment too.
@@ -134,7 +137,7 @@ Example:
 
 /// What `check` does.
 pub(crate) const CHECK: &str =
-    "Reads a configuration and its images, and prints ok where all of them are accepted";
+    "Reads a configuration and its images, and prints ok if all of them are accepted";
 
 /// The faults of a configuration and of an image in words, and an example.
 pub(crate) const CHECK_AFTER: &str =
@@ -200,7 +203,7 @@ pub(crate) const TICKS: &str = "How many ticks to run: 0 to 1099511627776, of 10
 
 /// The first tick of a picture.
 pub(crate) const FROM: &str =
-    "The first tick that is shown: 0 to 1099511627776, 0 where it is left out";
+    "The first tick that is shown: 0 to 1099511627776, 0 if it is left out";
 
 /// Whether a check explains the configuration.
 pub(crate) const EXPLAIN: &str =
@@ -217,14 +220,14 @@ pub(crate) const NEW: &str = "The configuration as it is to be, a TOML document"
 
 /// The one partition that is asked about.
 pub(crate) const ONE_PARTITION: &str =
-    "The name of the one partition that is asked about; all are where it is left out";
+    "The name of the one partition that is asked about; all are if it is left out";
 
 /// The partitions that have another name.
 pub(crate) const RENAME: &str =
     "OLD=NEW: the partition NEW is the one that was OLD; several with commas between them";
 
 /// The form of an answer.
-pub(crate) const FORMAT: &str = "text or json; text where it is left out";
+pub(crate) const FORMAT: &str = "text or json; text if it is left out";
 
 /// A source's file.
 pub(crate) const SOURCE: &str = "The source, assembly in UTF-8";
@@ -237,19 +240,32 @@ pub(crate) const IMAGE_READ: &str = "The image";
 
 /// The file of a source that is written.
 pub(crate) const TEXT: &str =
-    "The source, made anew or written over; standard output where it is left out";
+    "The source, made anew or written over; standard output if it is left out";
 
 /// The file that a report is compared with.
 pub(crate) const EXPECT: &str =
-    "Compare the report with this file; where a byte differs, say where, and end with status 4";
+    "Compare the report with this file; if a byte differs, say where, show both lines, and end with status 4";
 
 /// The kinds at which a run fails.
 pub(crate) const FAIL_ON: &str =
-    "End with status 4 where a partition is one of these: fault, refused, idle, with commas between them";
+    "End with status 4 if a partition is one of these, with commas between them: fault, refused, idle, exit (another status \
+    than 0), running (not ended), lost-input, full-output, deadlock, late, stack";
+
+/// The deadlines of responses.
+pub(crate) const DEADLINE: &str =
+    "NAME:THREAD=TICKS: the longest response that this thread of partition NAME may have; several with commas between them";
+
+/// The tick from which on figures count.
+pub(crate) const FROM_COUNTED: &str =
+    "Count what happens from this tick on: 0 to 1099511627776, 0 if it is left out";
+
+/// Whether stack pointers are looked at after every step.
+pub(crate) const STACK: &str =
+    "Look at the stack pointer after every step, so that the stack used is exact; it takes longer";
 
 /// Whether a run ends early.
 pub(crate) const UNTIL_HALTED: &str =
-    "Stop at the first multiple of 1,024 ticks at which every partition has halted";
+    "Stop at the first multiple of 1,024 ticks at which every partition has halted; one without an image counts as halted";
 
 /// Whether progress is shown.
 pub(crate) const QUIET: &str = "Show no progress";
@@ -259,7 +275,7 @@ pub(crate) const EXPLAIN_FAULT: &str = "Also print where and why the configurati
 
 /// Whether a trace has the instructions in words.
 pub(crate) const DECODE: &str =
-    "Behind each step its instruction in words, and of a call its name and its reply";
+    "After each step its instruction in words, and of a call its name, its arguments, its caller, whom it wakes and its reply";
 
 /// The file of an image's symbols.
 pub(crate) const SYMBOLS: &str = "The image's symbols, a line for each: ADDRESS LETTER NAME";
@@ -290,18 +306,18 @@ pub(crate) const LAST: &str =
     "Keep this number of steps in place of the configuration's: 1 to 1048576";
 
 /// The form of a picture.
-pub(crate) const PICTURE_FORMAT: &str = "svg, vcd or json; svg where it is left out";
+pub(crate) const PICTURE_FORMAT: &str = "svg, vcd or json; svg if it is left out";
 
 /// Whether a source's refusal is explained.
 pub(crate) const EXPLAIN_SOURCE: &str = "Also print where and why the source is refused, in words";
 
 /// The folder of the images.
 pub(crate) const ROOT: &str =
-    "Look up images from this folder; from the working directory where it is left out";
+    "Look up images from this folder; from the working directory if it is left out";
 
 /// The folder of the old configuration's images.
 pub(crate) const OLD_ROOT: &str =
-    "Look up the images of OLD from this folder; from that of --root where it is left out";
+    "Look up the images of OLD from this folder; from that of --root if it is left out";
 
 /// What `explain` does.
 pub(crate) const EXPLAIN_RUN: &str =
@@ -325,18 +341,20 @@ pub(crate) const STATS: &str =
 /// What the figures are, the refusals of `stats`, and an example.
 pub(crate) const STATS_AFTER: &str =
     "Of each partition the ticks in its windows: used by steps, idle, lost at ends of windows, after its halt. Of each
-thread its ticks by what it did, steps, preemptions, activations (from a wake to the next block), the
-longest way from ready to running, the least stack pointer, and its calls with how many were refused. Of
-each mutex the longest that it was held and waited for. 'own' counts ticks in the partition's windows
+thread its ticks by what it did, steps, preemptions, the longest way from ready to running, its responses
+(from a release to the completion, for --deadline), its stack, and its calls with how many were refused. Of
+each mutex the longest that it was held and waited for; of each condition variable its signals and
+broadcasts, and those that woke nobody. 'own' counts ticks in the partition's windows
 alone, 'all' every tick. With --format json one JSON object.
 
 Exit status:
   0  they are printed
   1  ptk: config fault N (see 'ptk check --help'), ptk: no partition NAME, ptk: missing file NAME,
-     ptk: not text NAME
+     ptk: not text NAME, ptk: nothing to show from tick M: M is after the run's end
   2  usage
   3  ptk: read failed NAME, ptk: write failed, ptk: no memory
 
 Example:
   ptk stats hello.toml --ticks 20
-  ptk stats hello.toml --ticks 20 --partition p --format json";
+  ptk stats hello.toml --ticks 20 --partition p --format json
+  ptk stats hello.toml --ticks 20 --from 10 --deadline p:1=8 --stack";

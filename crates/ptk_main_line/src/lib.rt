@@ -1,25 +1,26 @@
 #![tactic(auto)]
 
-//! The command line of the program: what its words ask for.
+//! The command line of the program: what its words ask for, the texts of its help, and its version.
 //!
-//! - `read_line` returns a request only where clap's meaning of the command gives the words that subcommand and the
-//!   values of each of its options (`IsRun` to `IsExplain`), at most 2^40 ticks.
-//! - An error is of the kind that clap gives it, or memory ran out, or clap takes the words and they ask for nothing.
-//! - `not_text`, `one_file`, `over_input` and `undecoded` are usage errors.
+//! - The numbers of a request that `read_line` returns are within their ranges (`in_range`: `IsInRange`).
 //!
-//! Each command's options are a struct, pinned by a definition of `specs/Requests`. Below is the crate `clap`; above is
-//! the program, which prints an error, and has its status from `Error::use_stderr` and `Error::kind`.
+//! Each command's options are a struct. Below is the crate `clap`; above is the program, which prints an error, and has
+//! its status from `Error::use_stderr` and `Error::kind`.
 
 mod commands;
+mod deadlines;
 mod help;
+mod kinds;
 mod line;
 mod requests;
 mod values;
 
+pub use deadlines::NamedDeadline;
+pub use kinds::{FAILURE_KINDS, FailOn, FailureKind};
 pub use line::{
     MOST_STEPS, MOST_THREADS, MOST_TICKS, not_text, one_file, over_input, read_line, undecoded,
 };
 pub use requests::{
-    AsmOptions, CheckOptions, DisasmOptions, ExplainOptions, FailOn, Format, ImpactOptions,
-    PictureFormat, Request, RunOptions, RunTo, StatsOptions, TimelineOptions, TraceOptions,
+    AsmOptions, CheckOptions, DisasmOptions, ExplainOptions, Format, ImpactOptions, PictureFormat,
+    Request, RunOptions, RunTo, StatsOptions, TimelineOptions, TraceOptions,
 };

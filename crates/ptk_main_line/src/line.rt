@@ -1,10 +1,6 @@
 //! The words of a command line and the request in them.
-ghost use Rattle.std.specs.Prelude.{◌≡◌, [], codes, map, IfErr, IfOk, OnOk};
-ghost use Rattle.clap.specs.Values.{kind_of};
-ghost use Rattle.clap.specs.Words.{fault_of, found_of, rows_of, subcommand_rows_of};
-ghost use Rattle.clap.specs.declared.error.kind.ErrorKind.TheVariants.{ArgumentConflict, InvalidValue, MissingRequiredArgument, ValueValidation};
-ghost use Rattle.ptk_main_line.specs.CommandLine.{Asks, IsRefusal, MeansAny, ptk};
-ghost use Rattle.ptk_main_line.specs.Requests.{FindsRequest, FindsRunTo};
+ghost use Rattle.std.specs.Prelude.{IfOk};
+ghost use Rattle.ptk_main_line.specs.Ranges.{IsInRange, IsRun};
 
 use crate::commands::ptk_command;
 use crate::requests::{
@@ -12,8 +8,8 @@ use crate::requests::{
     RunTo, StatsOptions, TimelineOptions, TraceOptions,
 };
 use crate::values::{
-    format_in, has_flag, kinds_in, number_in, option_in, optional_number_in, picture_format_in,
-    text_in,
+    NoRequest, deadlines_in, format_in, has_flag, kinds_in, number_in, option_in,
+    optional_number_in, picture_format_in, text_in,
 };
 use clap::error::ErrorKind;
 use clap::{ArgMatches, Error};
@@ -28,46 +24,35 @@ pub const MOST_STEPS: u64 = 1_048_576;
 
 /// Reads the words of a command line, of which the first is the program's name.
 ///
-/// An error has one of the kinds that `clap` gives the words: `DisplayHelp` where they ask for help, and otherwise what
-/// is wrong with them. Its kind is `InvalidValue` where `clap` takes the words and they ask for nothing: the value of
-/// `--format` or `--fail-on` is another word. It is `OutOfMemory` where memory runs out. Options may be before or after
-/// FILE, and `--ticks=N` is `--ticks N`.
+/// An error has one of the kinds that `clap` gives the words: `DisplayHelp` or `DisplayVersion` if they ask for help or
+/// the version, and otherwise what is wrong with them. Its kind is `InvalidValue` if `clap` takes the words and they
+/// ask for nothing: the value of `--format`, `--fail-on` or `--deadline` is another word. It is `OutOfMemory` if memory
+/// runs out. Options may be before or after FILE, and `--ticks=N` is `--ticks N`.
 pub fn read_line<'a>(alloc: Global, words: &'a [&'a str]) -> Result<Request<'a>, Error>
-    ensures asked { IfOk result (λ r. Asks (map (λ w. w.now) words.entry.now) r) }
-    ensures taken { OnOk result (fault_of ptk (map (λ w. w.now) words.entry.now) ≡ []) }
-    ensures refused { IfErr result (λ e. IsRefusal (map (λ w. w.now) words.entry.now) e) }
+    ensures in_range { IfOk result IsInRange }
 {
     let command = ptk_command(alloc)?;
     let matches = command.try_get_matches_from(words)?;
     match request_in(&matches) {
-        Some(request) => Ok(request),
-        None => Err(no_request(alloc)?),
+        Ok(request) => Ok(request),
+        Err(why) => Err(no_request(alloc, &why)?),
     }
 }
 
-/// The error of words that are taken and ask for nothing: a value is none of the words that its option takes.
-fn no_request(alloc: Global) -> Result<Error, AllocError>
-    ensures { IfOk result (λ e. kind_of e ≡ InvalidValue) }
-{
-    refusal(
-        alloc,
-        ErrorKind::InvalidValue,
-        "the value of --format or --fail-on is none of the words that --help names",
-    )
+/// The error of words that are taken and ask for nothing.
+fn no_request(alloc: Global, why: &NoRequest<'_>) -> Result<Error, AllocError> {
+    let text = format!(in alloc; "{why}")?;
+    refusal(alloc, ErrorKind::InvalidValue, text.as_str())
 }
 
 /// The usage error of a word that is not UTF-8, which `read_line` can't be given. `clap` has no kind for it, so it has
-/// the kind of a value that can't be read (own choice). An error where memory runs out.
-pub fn not_text(alloc: Global) -> Result<Error, AllocError>
-    ensures { IfOk result (λ e. kind_of e ≡ ValueValidation) }
-{
+/// the kind of a value that can't be read (own choice). An error if memory runs out.
+pub fn not_text(alloc: Global) -> Result<Error, AllocError> {
     refusal(alloc, ErrorKind::ValueValidation, "a word is not UTF-8")
 }
 
-/// The usage error of `asm` where two of its files are one and one is written over. An error where memory runs out.
-pub fn one_file(alloc: Global) -> Result<Error, AllocError>
-    ensures { IfOk result (λ e. kind_of e ≡ ArgumentConflict) }
-{
+/// The usage error of `asm` if two of its files are one and one is written over. An error if memory runs out.
+pub fn one_file(alloc: Global) -> Result<Error, AllocError> {
     refusal(
         alloc,
         ErrorKind::ArgumentConflict,
@@ -75,11 +60,9 @@ pub fn one_file(alloc: Global) -> Result<Error, AllocError>
     )
 }
 
-/// The error of `disasm` where OUT is the image or the file of its symbols, which would be written over: a usage error.
-/// An error where memory runs out.
-pub fn over_input(alloc: Global) -> Result<Error, AllocError>
-    ensures { IfOk result (λ e. kind_of e ≡ ArgumentConflict) }
-{
+/// The error of `disasm` if OUT is the image or the file of its symbols, which would be written over: a usage error.
+/// An error if memory runs out.
+pub fn over_input(alloc: Global) -> Result<Error, AllocError> {
     refusal(
         alloc,
         ErrorKind::ArgumentConflict,
@@ -87,11 +70,9 @@ pub fn over_input(alloc: Global) -> Result<Error, AllocError>
     )
 }
 
-/// The error of `trace` where an option chooses what is shown and `--decode` is not given: a usage error. An error
-/// where memory runs out.
-pub fn undecoded(alloc: Global) -> Result<Error, AllocError>
-    ensures { IfOk result (λ e. kind_of e ≡ MissingRequiredArgument) }
-{
+/// The error of `trace` if an option chooses what is shown and `--decode` is not given: a usage error. An error
+/// if memory runs out.
+pub fn undecoded(alloc: Global) -> Result<Error, AllocError> {
     refusal(
         alloc,
         ErrorKind::MissingRequiredArgument,
@@ -99,19 +80,19 @@ pub fn undecoded(alloc: Global) -> Result<Error, AllocError>
     )
 }
 
-/// The error of a kind, with this text and the command's usage. An error where memory runs out.
-fn refusal(alloc: Global, kind: ErrorKind, text: &str) -> Result<Error, AllocError>
-    ensures { IfOk result (λ e. kind_of e ≡ kind) }
-{
+/// The error of a kind, with this text and the command's usage. An error if memory runs out.
+fn refusal(alloc: Global, kind: ErrorKind, text: &str) -> Result<Error, AllocError> {
     let mut command = ptk_command(alloc)?;
     command.error(kind, text)
 }
 
-/// The request in the matches, if they have one.
-fn request_in<'a>(matches: &ArgMatches<'a>) -> Option<Request<'a>>
-    ensures { MeansAny result (subcommand_rows_of matches.now) }
+/// The request in the matches.
+fn request_in<'a>(matches: &ArgMatches<'a>) -> Result<Request<'a>, NoRequest<'a>>
+    ensures { IfOk result IsInRange }
 {
-    let (name, found) = matches.subcommand()?;
+    let Some((name, found)) = matches.subcommand() else {
+        return Err(NoRequest::NoCommand);
+    };
     match name {
         "run" => run_in(found),
         "trace" => trace_in(found),
@@ -122,31 +103,33 @@ fn request_in<'a>(matches: &ArgMatches<'a>) -> Option<Request<'a>>
         "impact" => impact_in(found),
         "explain" => explain_in(found),
         "stats" => stats_in(found),
-        _other => None,
+        _other => Err(NoRequest::NoCommand),
     }
 }
 
 /// The run in the matches of a command that looks at one.
-fn run_to_in<'a>(found: &ArgMatches<'a>) -> Option<RunTo<'a>>
-    ensures { FindsRunTo result (rows_of (found_of found.now)) }
+fn run_to_in<'a>(found: &ArgMatches<'a>) -> Result<RunTo<'a>, NoRequest<'a>>
+    ensures { IfOk result IsRun }
 {
     let file = text_in(found, "FILE")?;
     let ticks = number_in(found, "ticks", 0, MOST_TICKS)?;
     let root = option_in(found, "root");
-    Some(RunTo { file, ticks, root })
+    Ok(RunTo { file, ticks, root })
 }
 
 /// The request in the matches of `run`.
-fn run_in<'a>(found: &ArgMatches<'a>) -> Option<Request<'a>>
-    ensures { FindsRequest result (codes "run") (rows_of (found_of found.now)) }
+fn run_in<'a>(found: &ArgMatches<'a>) -> Result<Request<'a>, NoRequest<'a>>
+    ensures { IfOk result IsInRange }
 {
     let run = run_to_in(found)?;
     let fail_on = kinds_in(found)?;
+    let deadline = deadlines_in(found)?;
     let format = format_in(found)?;
-    Some(Request::Run(RunOptions {
+    Ok(Request::Run(RunOptions {
         run,
         expect: option_in(found, "expect"),
         fail_on,
+        deadline,
         until_halted: has_flag(found, "until-halted"),
         quiet: has_flag(found, "quiet"),
         format,
@@ -155,8 +138,8 @@ fn run_in<'a>(found: &ArgMatches<'a>) -> Option<Request<'a>>
 }
 
 /// The request in the matches of `trace`.
-fn trace_in<'a>(found: &ArgMatches<'a>) -> Option<Request<'a>>
-    ensures { FindsRequest result (codes "trace") (rows_of (found_of found.now)) }
+fn trace_in<'a>(found: &ArgMatches<'a>) -> Result<Request<'a>, NoRequest<'a>>
+    ensures { IfOk result IsInRange }
 {
     let run = run_to_in(found)?;
     let partition = text_in(found, "partition")?;
@@ -164,7 +147,7 @@ fn trace_in<'a>(found: &ArgMatches<'a>) -> Option<Request<'a>>
     let from = optional_number_in(found, "from", 0, MOST_TICKS)?;
     let to = optional_number_in(found, "to", 0, MOST_TICKS)?;
     let last = optional_number_in(found, "last", 1, MOST_STEPS)?;
-    Some(Request::Trace(TraceOptions {
+    Ok(Request::Trace(TraceOptions {
         run,
         partition,
         decode: has_flag(found, "decode"),
@@ -179,13 +162,13 @@ fn trace_in<'a>(found: &ArgMatches<'a>) -> Option<Request<'a>>
 }
 
 /// The request in the matches of `timeline`.
-fn timeline_in<'a>(found: &ArgMatches<'a>) -> Option<Request<'a>>
-    ensures { FindsRequest result (codes "timeline") (rows_of (found_of found.now)) }
+fn timeline_in<'a>(found: &ArgMatches<'a>) -> Result<Request<'a>, NoRequest<'a>>
+    ensures { IfOk result IsInRange }
 {
     let run = run_to_in(found)?;
     let from = optional_number_in(found, "from", 0, MOST_TICKS)?;
     let format = picture_format_in(found)?;
-    Some(Request::Timeline(TimelineOptions {
+    Ok(Request::Timeline(TimelineOptions {
         run,
         from,
         format,
@@ -194,12 +177,12 @@ fn timeline_in<'a>(found: &ArgMatches<'a>) -> Option<Request<'a>>
 }
 
 /// The request in the matches of `asm`.
-fn asm_in<'a>(found: &ArgMatches<'a>) -> Option<Request<'a>>
-    ensures { FindsRequest result (codes "asm") (rows_of (found_of found.now)) }
+fn asm_in<'a>(found: &ArgMatches<'a>) -> Result<Request<'a>, NoRequest<'a>>
+    ensures { IfOk result IsInRange }
 {
     let source = text_in(found, "IN")?;
     let image = text_in(found, "OUT")?;
-    Some(Request::Asm(AsmOptions {
+    Ok(Request::Asm(AsmOptions {
         source,
         image,
         symbols: option_in(found, "symbols"),
@@ -208,11 +191,11 @@ fn asm_in<'a>(found: &ArgMatches<'a>) -> Option<Request<'a>>
 }
 
 /// The request in the matches of `disasm`.
-fn disasm_in<'a>(found: &ArgMatches<'a>) -> Option<Request<'a>>
-    ensures { FindsRequest result (codes "disasm") (rows_of (found_of found.now)) }
+fn disasm_in<'a>(found: &ArgMatches<'a>) -> Result<Request<'a>, NoRequest<'a>>
+    ensures { IfOk result IsInRange }
 {
     let image = text_in(found, "IMAGE")?;
-    Some(Request::Disasm(DisasmOptions {
+    Ok(Request::Disasm(DisasmOptions {
         image,
         target: option_in(found, "OUT"),
         symbols: option_in(found, "symbols"),
@@ -220,12 +203,12 @@ fn disasm_in<'a>(found: &ArgMatches<'a>) -> Option<Request<'a>>
 }
 
 /// The request in the matches of `check`.
-fn check_in<'a>(found: &ArgMatches<'a>) -> Option<Request<'a>>
-    ensures { FindsRequest result (codes "check") (rows_of (found_of found.now)) }
+fn check_in<'a>(found: &ArgMatches<'a>) -> Result<Request<'a>, NoRequest<'a>>
+    ensures { IfOk result IsInRange }
 {
     let file = text_in(found, "FILE")?;
     let format = format_in(found)?;
-    Some(Request::Check(CheckOptions {
+    Ok(Request::Check(CheckOptions {
         file,
         root: option_in(found, "root"),
         explain: has_flag(found, "explain"),
@@ -234,13 +217,13 @@ fn check_in<'a>(found: &ArgMatches<'a>) -> Option<Request<'a>>
 }
 
 /// The request in the matches of `impact`.
-fn impact_in<'a>(found: &ArgMatches<'a>) -> Option<Request<'a>>
-    ensures { FindsRequest result (codes "impact") (rows_of (found_of found.now)) }
+fn impact_in<'a>(found: &ArgMatches<'a>) -> Result<Request<'a>, NoRequest<'a>>
+    ensures { IfOk result IsInRange }
 {
     let old = text_in(found, "OLD")?;
     let new = text_in(found, "NEW")?;
     let format = format_in(found)?;
-    Some(Request::Impact(ImpactOptions {
+    Ok(Request::Impact(ImpactOptions {
         old,
         new,
         partition: option_in(found, "partition"),
@@ -252,13 +235,13 @@ fn impact_in<'a>(found: &ArgMatches<'a>) -> Option<Request<'a>>
 }
 
 /// The request in the matches of `explain`.
-fn explain_in<'a>(found: &ArgMatches<'a>) -> Option<Request<'a>>
-    ensures { FindsRequest result (codes "explain") (rows_of (found_of found.now)) }
+fn explain_in<'a>(found: &ArgMatches<'a>) -> Result<Request<'a>, NoRequest<'a>>
+    ensures { IfOk result IsInRange }
 {
     let run = run_to_in(found)?;
     let partition = text_in(found, "partition")?;
     let format = format_in(found)?;
-    Some(Request::Explain(ExplainOptions {
+    Ok(Request::Explain(ExplainOptions {
         run,
         partition,
         symbols: option_in(found, "symbols"),
@@ -267,14 +250,19 @@ fn explain_in<'a>(found: &ArgMatches<'a>) -> Option<Request<'a>>
 }
 
 /// The request in the matches of `stats`.
-fn stats_in<'a>(found: &ArgMatches<'a>) -> Option<Request<'a>>
-    ensures { FindsRequest result (codes "stats") (rows_of (found_of found.now)) }
+fn stats_in<'a>(found: &ArgMatches<'a>) -> Result<Request<'a>, NoRequest<'a>>
+    ensures { IfOk result IsInRange }
 {
     let run = run_to_in(found)?;
+    let from = optional_number_in(found, "from", 0, MOST_TICKS)?;
+    let deadline = deadlines_in(found)?;
     let format = format_in(found)?;
-    Some(Request::Stats(StatsOptions {
+    Ok(Request::Stats(StatsOptions {
         run,
         partition: option_in(found, "partition"),
+        from,
+        deadline,
+        stack: has_flag(found, "stack"),
         format,
     }))
 }

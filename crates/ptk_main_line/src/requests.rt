@@ -1,8 +1,7 @@
 //! What a command line may ask for, a struct of options for each command. A file is named by its path from the working
-//! directory. An option that was left out is `None`, or false where it is a flag.
+//! directory. An option that was left out is `None`, or false if it is a flag.
 
-ghost use Rattle.std.specs.Prelude.{◌≡◌};
-ghost use Rattle.ptk_main_line.specs.Requests.{wants_words};
+use crate::kinds::FailOn;
 
 /// What a command line asks for.
 #[derive(Clone, Copy)]
@@ -34,7 +33,7 @@ pub struct RunTo<'a> {
     pub file: &'a str,
     /// The number of ticks, at most `MOST_TICKS`.
     pub ticks: u64,
-    /// The folder from which images are looked up; the working directory where it is not given.
+    /// The folder from which images are looked up; the working directory if it is not given.
     pub root: Option<&'a str>,
 }
 
@@ -45,9 +44,11 @@ pub struct RunOptions<'a> {
     pub run: RunTo<'a>,
     /// The file that the report is compared with.
     pub expect: Option<&'a str>,
-    /// The kinds of a partition's status at which the run fails.
+    /// The kinds of what the run fails on.
     pub fail_on: FailOn,
-    /// Whether the run ends where every partition has halted.
+    /// The deadlines of responses, as they were written.
+    pub deadline: Option<&'a str>,
+    /// Whether the run ends once every partition has halted.
     pub until_halted: bool,
     /// Whether no progress is shown.
     pub quiet: bool,
@@ -84,9 +85,7 @@ pub struct TraceOptions<'a> {
 
 impl TraceOptions<'_> {
     /// Whether an option is there that goes with `--decode` alone.
-    pub fn wants_words(&self) -> bool
-        ensures { result ≡ wants_words self.now }
-    {
+    pub fn wants_words(&self) -> bool {
         self.symbols.is_some()
             || self.thread.is_some()
             || self.calls
@@ -126,7 +125,7 @@ pub struct AsmOptions<'a> {
 pub struct DisasmOptions<'a> {
     /// The file of the image.
     pub image: &'a str,
-    /// The file that the text is written to; standard output where it is not given.
+    /// The file that the text is written to; standard output if it is not given.
     pub target: Option<&'a str>,
     /// The file of the symbols.
     pub symbols: Option<&'a str>,
@@ -137,7 +136,7 @@ pub struct DisasmOptions<'a> {
 pub struct CheckOptions<'a> {
     /// The configuration's file.
     pub file: &'a str,
-    /// The folder from which images are looked up; the working directory where it is not given.
+    /// The folder from which images are looked up; the working directory if it is not given.
     pub root: Option<&'a str>,
     /// Whether what each partition has, or the place of a refusal, is also printed.
     pub explain: bool,
@@ -158,9 +157,9 @@ pub struct ImpactOptions<'a> {
     pub rename: Option<&'a str>,
     /// The form of the answer.
     pub format: Format,
-    /// The folder from which images are looked up; the working directory where it is not given.
+    /// The folder from which images are looked up; the working directory if it is not given.
     pub root: Option<&'a str>,
-    /// The folder from which the old configuration's images are looked up; that of `root` where it is not given.
+    /// The folder from which the old configuration's images are looked up; that of `root` if it is not given.
     pub old_root: Option<&'a str>,
 }
 
@@ -184,6 +183,12 @@ pub struct StatsOptions<'a> {
     pub run: RunTo<'a>,
     /// The name of the one partition that is asked for.
     pub partition: Option<&'a str>,
+    /// The tick from which on what happens is counted, at most `MOST_TICKS`.
+    pub from: Option<u64>,
+    /// The deadlines of responses, as they were written.
+    pub deadline: Option<&'a str>,
+    /// Whether stack pointers are looked at after every step.
+    pub stack: bool,
     /// The form of the answer.
     pub format: Format,
 }
@@ -206,24 +211,4 @@ pub enum PictureFormat {
     Vcd,
     /// The Trace Event Format, for Perfetto.
     Json,
-}
-
-/// The kinds of a partition's status at which a run fails.
-#[derive(Clone, Copy, PartialEq, Eq)]
-pub struct FailOn {
-    /// A fault or a break.
-    pub fault: bool,
-    /// A refused image.
-    pub refused: bool,
-    /// Every thread waits.
-    pub idle: bool,
-}
-
-impl FailOn {
-    /// No kind.
-    pub const NONE: FailOn = FailOn {
-        fault: false,
-        refused: false,
-        idle: false,
-    };
 }

@@ -1,18 +1,51 @@
 //! The values of a subcommand's options in its matches.
-ghost use Rattle.std.specs.Prelude.{◌≡◌, ◌≤◌, ◌^◌, codes};
-ghost use Rattle.clap.specs.Words.{first_of, found_of, rows_of};
-ghost use Rattle.ptk_main_line.specs.Values.{FindsNumber, FindsOption, FindsText, HasFlag, MayHaveText};
-ghost use Rattle.ptk_main_line.specs.Words.{format_named, format_of, kinds_named, kinds_of, picture_named, picture_of};
+ghost use Rattle.std.specs.Prelude.{◌≤◌, IfOk, IfSome};
 
-use crate::requests::{FailOn, Format, PictureFormat};
+use crate::deadlines::NamedDeadline;
+use crate::kinds::FailOn;
+use crate::requests::{Format, PictureFormat};
 use clap::ArgMatches;
 use clap::parser::ValueSource;
+use std::fmt;
+
+/// Why words that `clap` takes ask for nothing.
+#[derive(Clone, Copy)]
+pub(crate) enum NoRequest<'a> {
+    /// There is no command of this program.
+    NoCommand,
+    /// The argument of this name has no value, or a number out of its range.
+    NoValue(&'a str),
+    /// A value is none of the words that its option takes.
+    OtherWord {
+        /// The option's long name.
+        option: &'a str,
+        /// The value.
+        value: &'a str,
+        /// The words that the option takes.
+        words: &'static str,
+    },
+}
+
+impl fmt::Display for NoRequest<'_> {
+    fn fmt<W: fmt::Write>(&self, f: &mut fmt::Formatter<W>) -> fmt::Result {
+        match *self {
+            NoRequest::NoCommand => f.write_str("there is no command"),
+            NoRequest::NoValue(name) => write!(f, "{name} has no value, or one out of its range"),
+            NoRequest::OtherWord {
+                option,
+                value,
+                words,
+            } => write!(f, "the value '{value}' of --{option} is none of {words}"),
+        }
+    }
+}
 
 impl Format {
-    /// The form that a word names, None where it names none.
-    fn named(word: &str) -> Option<Format>
-        ensures { result ≡ format_named word.now }
-    {
+    /// The words of the forms.
+    const WORDS: &'static str = "text, json";
+
+    /// The form that a word names, None if it names none.
+    fn named(word: &str) -> Option<Format> {
         match word {
             "text" => Some(Format::Text),
             "json" => Some(Format::Json),
@@ -22,10 +55,11 @@ impl Format {
 }
 
 impl PictureFormat {
-    /// The form that a word names, None where it names none.
-    fn named(word: &str) -> Option<PictureFormat>
-        ensures { result ≡ picture_named word.now }
-    {
+    /// The words of the forms.
+    const WORDS: &'static str = "svg, vcd, json";
+
+    /// The form that a word names, None if it names none.
+    fn named(word: &str) -> Option<PictureFormat> {
         match word {
             "svg" => Some(PictureFormat::Svg),
             "vcd" => Some(PictureFormat::Vcd),
@@ -35,109 +69,108 @@ impl PictureFormat {
     }
 }
 
-impl FailOn {
-    /// The kinds that a value names, each once and in any order, with commas between them. None where it is another
-    /// text.
-    fn named(value: &str) -> Option<FailOn>
-        ensures { result ≡ kinds_named value.now }
-    {
-        let (fault, refused, idle) = match value {
-            "fault" => (true, false, false),
-            "refused" => (false, true, false),
-            "idle" => (false, false, true),
-            "fault,refused" | "refused,fault" => (true, true, false),
-            "fault,idle" | "idle,fault" => (true, false, true),
-            "refused,idle" | "idle,refused" => (false, true, true),
-            "fault,refused,idle" | "fault,idle,refused" => (true, true, true),
-            "refused,fault,idle" | "refused,idle,fault" => (true, true, true),
-            "idle,fault,refused" | "idle,refused,fault" => (true, true, true),
-            _other => return None,
-        };
-        Some(FailOn {
-            fault,
-            refused,
-            idle,
-        })
+/// The text that has to be there.
+pub(crate) fn text_in<'a>(found: &ArgMatches<'a>, id: &'a str) -> Result<&'a str, NoRequest<'a>> {
+    match found.get_str(id) {
+        Some(text) => Ok(text),
+        None => Err(NoRequest::NoValue(id)),
     }
 }
 
-/// The text that has to be there.
-pub(crate) fn text_in<'a>(found: &ArgMatches<'a>, id: &str) -> Option<&'a str>
-    ensures { FindsText id.now result (rows_of (found_of found.now)) }
-{
-    found.get_str(id)
-}
-
 /// The text that may be left out.
-pub(crate) fn option_in<'a>(found: &ArgMatches<'a>, id: &str) -> Option<&'a str>
-    ensures { MayHaveText id.now result (rows_of (found_of found.now)) }
-{
+pub(crate) fn option_in<'a>(found: &ArgMatches<'a>, id: &str) -> Option<&'a str> {
     found.get_str(id)
 }
 
 /// Whether the words have a flag.
-#[tactic(auto, using(crate::proofs::RowFacts::source_is))]
-pub(crate) fn has_flag(found: &ArgMatches, id: &str) -> bool
-    ensures { HasFlag id.now result (rows_of (found_of found.now)) }
-{
+pub(crate) fn has_flag(found: &ArgMatches, id: &str) -> bool {
     matches!(found.value_source(id), Some(ValueSource::CommandLine))
 }
 
-/// The number that has to be there, where it is one from `least` to `most`.
-pub(crate) fn number_in(found: &ArgMatches, id: &str, least: u64, most: u64) -> Option<u64>
-    requires { most ≤ 2 ^ 40 }
-    ensures { FindsNumber id.now least most result (rows_of (found_of found.now)) }
-{
-    let number = found.get_one::<u64>(id)?;
-    if number < least {
-        return None;
-    }
-    if number <= most { Some(number) } else { None }
-}
-
-/// The number that may be left out. None where it is there and is none from `least` to `most`.
-pub(crate) fn optional_number_in(
-    found: &ArgMatches,
-    id: &str,
+/// The number that has to be there, from `least` to `most`.
+pub(crate) fn number_in<'a>(
+    found: &ArgMatches<'a>,
+    id: &'a str,
     least: u64,
     most: u64,
-) -> Option<Option<u64>>
-    requires { most ≤ 2 ^ 40 }
-    ensures { FindsOption id.now least most result (rows_of (found_of found.now)) }
+) -> Result<u64, NoRequest<'a>>
+    ensures least { IfOk result (λ n. least ≤ n) }
+    ensures most { IfOk result (λ n. n ≤ most) }
 {
-    match found.get_str(id) {
-        Some(_) => Some(Some(number_in(found, id, least, most)?)),
-        None => Some(None),
+    match found.get_one::<u64>(id) {
+        Some(number) if least <= number && number <= most => Ok(number),
+        _ => Err(NoRequest::NoValue(id)),
     }
 }
 
-/// The form that `--format` names, `Format::Text` where it is not given. None where its value names none.
-pub(crate) fn format_in(found: &ArgMatches) -> Option<Format>
-    ensures { result ≡ format_of (first_of (codes "format") (rows_of (found_of found.now))) }
+/// The number that may be left out, from `least` to `most` if it is there.
+pub(crate) fn optional_number_in<'a>(
+    found: &ArgMatches<'a>,
+    id: &'a str,
+    least: u64,
+    most: u64,
+) -> Result<Option<u64>, NoRequest<'a>>
+    ensures least { IfOk result (λ number. IfSome number (λ n. least ≤ n)) }
+    ensures most { IfOk result (λ number. IfSome number (λ n. n ≤ most)) }
 {
-    match found.get_str("format") {
-        Some(word) => Format::named(word),
-        None => Some(Format::Text),
+    if found.get_str(id).is_none() {
+        return Ok(None);
+    }
+    Ok(Some(number_in(found, id, least, most)?))
+}
+
+/// The form that `--format` names, `Format::Text` if it is not given.
+pub(crate) fn format_in<'a>(found: &ArgMatches<'a>) -> Result<Format, NoRequest<'a>> {
+    let Some(value) = found.get_str("format") else {
+        return Ok(Format::Text);
+    };
+    match Format::named(value) {
+        Some(format) => Ok(format),
+        None => Err(other_word("format", value, Format::WORDS)),
     }
 }
 
-/// The form of a picture that `--format` names, `PictureFormat::Svg` where it is not given. None where its value names
-/// none.
-pub(crate) fn picture_format_in(found: &ArgMatches) -> Option<PictureFormat>
-    ensures { result ≡ picture_of (first_of (codes "format") (rows_of (found_of found.now))) }
-{
-    match found.get_str("format") {
-        Some(word) => PictureFormat::named(word),
-        None => Some(PictureFormat::Svg),
+/// The form of a picture that `--format` names, `PictureFormat::Svg` if it is not given.
+pub(crate) fn picture_format_in<'a>(
+    found: &ArgMatches<'a>,
+) -> Result<PictureFormat, NoRequest<'a>> {
+    let Some(value) = found.get_str("format") else {
+        return Ok(PictureFormat::Svg);
+    };
+    match PictureFormat::named(value) {
+        Some(format) => Ok(format),
+        None => Err(other_word("format", value, PictureFormat::WORDS)),
     }
 }
 
-/// The kinds that `--fail-on` names, none where it is not given. None where its value names other words.
-pub(crate) fn kinds_in(found: &ArgMatches) -> Option<FailOn>
-    ensures { result ≡ kinds_of (first_of (codes "fail-on") (rows_of (found_of found.now))) }
-{
-    match found.get_str("fail-on") {
-        Some(value) => FailOn::named(value),
-        None => Some(FailOn::NONE),
+/// The kinds that `--fail-on` names, none if it is not given.
+pub(crate) fn kinds_in<'a>(found: &ArgMatches<'a>) -> Result<FailOn, NoRequest<'a>> {
+    let Some(value) = found.get_str("fail-on") else {
+        return Ok(FailOn::NONE);
+    };
+    match FailOn::named(value) {
+        Some(kinds) => Ok(kinds),
+        None => Err(other_word("fail-on", value, FailOn::WORDS)),
+    }
+}
+
+/// The deadlines that `--deadline` names, as they are written.
+pub(crate) fn deadlines_in<'a>(found: &ArgMatches<'a>) -> Result<Option<&'a str>, NoRequest<'a>> {
+    let Some(value) = found.get_str("deadline") else {
+        return Ok(None);
+    };
+    if NamedDeadline::are_named(value) {
+        Ok(Some(value))
+    } else {
+        Err(other_word("deadline", value, NamedDeadline::FORM))
+    }
+}
+
+/// That the value of an option is none of the words that it takes.
+fn other_word<'a>(option: &'a str, value: &'a str, words: &'static str) -> NoRequest<'a> {
+    NoRequest::OtherWord {
+        option,
+        value,
+        words,
     }
 }

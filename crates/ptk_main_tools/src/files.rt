@@ -1,84 +1,71 @@
-//! The files of the host.
+//! The files of the host, as they are compared and written.
 
-ghost use Rattle.std.specs.Prelude.{◌≡◌, ℕ, Bool, true, false, List, Option, None, Some, IfErr, IfOk, IsTrue, OnOk};
-ghost use Rattle.ptk_main_tools.specs.Reading.{IsMissing, IsReadFault};
+use std::fs::{File, Metadata, OpenOptions};
+use std::io::{ErrorKind, Write};
+use std::os::unix::fs::MetadataExt;
+use std::{fs, io, process};
 
-use crate::reading::bytes_in;
-use ptk_main_faults::Fault;
-use std::fs;
-
-/// Who reads files.
-pub trait FileReader {
-    /// The file of a path was read as these bytes, or is not there. The default says nothing.
-    ghost reads: { Self → List ℕ → Option (List ℕ) → Type 0 } = { λ _ _ _. Unit {0} };
-
-    /// Two paths were found to be one file, or not to be. The default says nothing.
-    ghost finds: { Self → List ℕ → List ℕ → Bool → Type 0 } = { λ _ _ _ _. Unit {0} };
-
-    /// The bytes of the file of this path. A fault where it is not there, can't be read, or memory ran out.
-    fn read_file<'a>(&self, path: &'a str) -> Result<Vec<u8>, Fault<'a>>
-        ensures read { IfOk result (λ bytes. reads self.now path.now (Some bytes.items)) }
-        ensures missing { IfErr result (λ fault. IsMissing fault → reads self.now path.now None) }
-        ensures unread { IfErr result (IsReadFault path.entry) };
-
-    /// Whether two paths are one file; where their words are the same they are.
-    fn is_one_file(&self, first: &str, second: &str) -> bool
-        ensures same { first.now ≡ second.now → IsTrue result }
-        ensures one { IsTrue result → finds self.now first.now second.now true }
-        ensures apart { result ≡ false → finds self.now first.now second.now false };
-}
-
-/// Who writes files.
-pub(crate) trait FileWriter {
-    /// What the writing of a file changes: who writes before it, the file's name, its bytes, and who writes then. The
-    /// default says nothing.
-    ghost writes: { Self → List ℕ → List ℕ → Self → Type 0 } = { λ _ _ _ _. Unit {0} };
-
-    /// Makes the file of this name anew, with these bytes. A fault where it can't be written.
-    fn write_file(&mut self, name: &str, bytes: &[u8]) -> Result<(), Fault<'static>>
-        ensures written { OnOk result (writes self.old name.now bytes.now self.new) }
-        ensures failed { IfErr result (λ fault. fault ≡ Fault.WriteFailed) };
-}
-
-/// The host's files.
-#[derive(Drop)]
-pub struct HostFiles<'r> {
-    rt: &'r HostRuntime,
-}
-
-impl<'r> HostFiles<'r> {
-    /// The files of this host.
-    pub fn of(rt: &'r HostRuntime) -> HostFiles<'r> {
-        HostFiles { rt }
+/// Whether two paths are one file: their words are the same, or both lead to the same file of one device, by whatever
+/// links.
+pub(crate) fn is_one_file(rt: &HostRuntime, first: &str, second: &str) -> bool {
+    if first == second {
+        return true;
+    }
+    match (fs::metadata(rt, first), fs::metadata(rt, second)) {
+        (Ok(first), Ok(second)) => first.dev() == second.dev() && first.ino() == second.ino(),
+        _ => false,
     }
 }
 
-impl FileReader for HostFiles<'_> {
-    fn read_file<'a>(&self, path: &'a str) -> Result<Vec<u8>, Fault<'a>> {
-        bytes_in(self.rt, path)
-    }
-
-    // Paths with other words are one file where both are there and lead to one path. Two hard links to one file are not
-    // seen.
-    fn is_one_file(&self, first: &str, second: &str) -> bool {
-        if first == second {
-            return true;
-        }
-        match (
-            fs::canonicalize(self.rt, first),
-            fs::canonicalize(self.rt, second),
-        ) {
-            (Ok(first), Ok(second)) => first.as_path() == second.as_path(),
-            _ => false,
-        }
+/// Makes the file of this path anew, with these bytes. A file that is there already stays as it is until the new bytes
+/// are written beside it, and then is replaced; if no file can be made beside it, for another reason than a full
+/// disk, it is written over. An error if the bytes can't be written.
+pub(crate) fn write_file(rt: &HostRuntime, path: &str, bytes: &[u8]) -> io::Result<()> {
+    match fs::metadata(rt, path) {
+        Ok(old) if old.is_file() => replace_file(rt, path, &old, bytes),
+        _ => fs::write(rt, path, bytes),
     }
 }
 
-impl FileWriter for HostFiles<'_> {
-    fn write_file(&mut self, name: &str, bytes: &[u8]) -> Result<(), Fault<'static>> {
-        match fs::write(self.rt, name, bytes) {
-            Ok(()) => Ok(()),
-            Err(_) => Err(Fault::WriteFailed),
-        }
+// Replaces the file of this path by one with these bytes and its permissions. A link to it stays one.
+fn replace_file(rt: &HostRuntime, path: &str, old: &Metadata, bytes: &[u8]) -> io::Result<()> {
+    let target = fs::canonicalize(rt, path)?;
+    let whole = target.as_path().to_string_lossy();
+    let number = process::id(rt.process());
+    let beside = format!(in rt.alloc(); "{whole}.{number}.new")?;
+    match OpenOptions::new()
+        .write(true)
+        .create_new(true)
+        .open(rt, beside.as_str())
+    {
+        Ok(file) => take_place(rt, file, beside.as_str(), whole, old, bytes),
+        Err(error) => match error.kind() {
+            ErrorKind::StorageFull | ErrorKind::QuotaExceeded => Err(error),
+            _ => fs::write(rt, path, bytes),
+        },
     }
+}
+
+// Writes these bytes into a new file, which takes the place of the old one. The new file is removed if it can't be
+// written or can't take that place.
+fn take_place(
+    rt: &HostRuntime,
+    file: File,
+    beside: &str,
+    whole: &str,
+    old: &Metadata,
+    bytes: &[u8],
+) -> io::Result<()> {
+    let outcome = fill(file, old, bytes).and_then(|()| fs::rename(rt, beside, whole));
+    if outcome.is_err() {
+        let _removed = fs::remove_file(rt, beside);
+    }
+    outcome
+}
+
+// Writes these bytes into a file, which gets the permissions of another.
+fn fill(file: File, old: &Metadata, bytes: &[u8]) -> io::Result<()> {
+    let mut file = file;
+    file.write_all(bytes)?;
+    file.set_permissions(old.permissions())
 }

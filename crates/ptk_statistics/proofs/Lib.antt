@@ -1,4 +1,1 @@
-pub mod Runs
-pub mod Sent
-pub mod Answered
-pub mod Tables
+pub mod Going

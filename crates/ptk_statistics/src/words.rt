@@ -1,10 +1,7 @@
-//! The words for kinds of what a thread does, and for how a partition stands.
+//! The words for kinds of what a thread does, and for how a partition ended its run.
 
-ghost use Rattle.std.specs.Prelude.{◌≡◌};
-ghost use Rattle.ptk_statistics.specs.Words.{word_of_doing, word_of_outcome};
-
+use ptk_main_runs::PartStatus;
 use ptk_statistics_figures::Doing;
-use ptk_statistics_run::PartStatus;
 
 /// The kinds of what a live thread does, in the order of the tables.
 pub(crate) const KINDS: [Doing; 8] = [
@@ -19,9 +16,7 @@ pub(crate) const KINDS: [Doing; 8] = [
 ];
 
 /// The word for a kind.
-pub(crate) fn doing_word(doing: Doing) -> &'static str
-    ensures { result.now ≡ word_of_doing doing }
-{
+pub(crate) fn doing_word(doing: Doing) -> &'static str {
     match doing {
         Doing::Free => "free",
         Doing::Running => "running",
@@ -38,9 +33,7 @@ pub(crate) fn doing_word(doing: Doing) -> &'static str
 }
 
 /// The word for how a partition ended its run, as a participle where the report has a noun (`exited`, `stopped`).
-pub(crate) fn outcome_word(status: PartStatus) -> &'static str
-    ensures { result.now ≡ word_of_outcome status }
-{
+pub(crate) fn outcome_word(status: PartStatus) -> &'static str {
     match status {
         PartStatus::Idle => "idle",
         PartStatus::Running => "running",

@@ -1,8 +1,5 @@
 //! The calls and their names.
 
-ghost use Rattle.std.specs.Prelude.{◌≡◌};
-ghost use Rattle.ptk_statistics_figures.specs.CallNames.{name_of};
-
 use ptk_words::Call;
 
 /// All calls, in the order of their numbers.
@@ -46,11 +43,8 @@ pub const CALLS: [Call; 37] = [
     Call::PthreadGetspecific,
 ];
 
-/// The name that POSIX.1-2017 gives a call, or its own name in the guest's view (docs/GUEST_ABI.md). A name follows
-/// from nothing else, so the definition is the same table once more.
-pub fn call_name(call: Call) -> &'static str
-    ensures { result.now ≡ name_of call }
-{
+/// The name that POSIX.1-2017 gives a call, or its own name in the guest's view (docs/GUEST_ABI.md).
+pub fn call_name(call: Call) -> &'static str {
     match call {
         Call::Exit => "exit",
         Call::ConsolePut => "console_put",

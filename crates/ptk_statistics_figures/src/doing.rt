@@ -1,8 +1,10 @@
 //! The kinds of what a thread does.
 
-ghost use Rattle.std.specs.Prelude.{◌≡◌, ◌<◌};
+ghost use Rattle.std.specs.Prelude.{◌<◌};
 ghost use Rattle.ptk_statistics_figures.specs.declared.doing.TheConstants.{DOINGS};
-ghost use Rattle.ptk_statistics_figures.specs.Doings.{is_awake, is_block, is_blocked, is_dispatch, is_free, is_running, is_wake, place_of_doing};
+
+use ptk_system::Activity;
+use ptk_words::Wait;
 
 /// How many kinds there are.
 pub(crate) const DOINGS: usize = 11;
@@ -35,10 +37,33 @@ pub enum Doing {
 }
 
 impl Doing {
+    /// The kind of an activity.
+    pub fn of(activity: &Activity) -> Doing {
+        match activity {
+            Activity::Free => Doing::Free,
+            Activity::Running => Doing::Running,
+            Activity::Ready => Doing::Ready,
+            Activity::Blocked(wait) => Doing::of_wait(wait),
+            Activity::Ended => Doing::Ended,
+            Activity::Halted => Doing::Halted,
+        }
+    }
+
+    /// The kind of a wait.
+    fn of_wait(wait: &Wait) -> Doing {
+        match wait {
+            Wait::InputWait => Doing::Input,
+            Wait::SleepWait(_) => Doing::Sleep,
+            Wait::JoinWait(_) => Doing::Join,
+            Wait::MutexWait(_, _) => Doing::Mutex,
+            Wait::ConditionWait(_, _, _) => Doing::Condition,
+            Wait::RelockWait(_, _) => Doing::Relock,
+        }
+    }
+
     /// Its place among the kinds, from 0.
     pub(crate) fn place(self) -> usize
-        ensures value { result ≡ place_of_doing self }
-        ensures within { result < DOINGS }
+        ensures { result < DOINGS }
     {
         match self {
             Doing::Free => 0,
@@ -55,107 +80,23 @@ impl Doing {
         }
     }
 
-    /// Whether it is blocked.
-    pub fn is_blocked(self) -> bool
-        ensures { result ≡ is_blocked self }
-    {
-        match self {
-            Doing::Input
-            | Doing::Sleep
-            | Doing::Join
-            | Doing::Mutex
-            | Doing::Condition
-            | Doing::Relock => true,
-            Doing::Free | Doing::Running | Doing::Ready | Doing::Ended | Doing::Halted => false,
-        }
+    /// Whether it is awake: running or ready.
+    pub fn is_awake(self) -> bool {
+        self == Doing::Running || self == Doing::Ready
     }
 
-    /// Whether no thread has the number.
-    pub(crate) fn is_free(self) -> bool
-        ensures { result ≡ is_free self }
-    {
+    /// Whether a thread that does it has something to do until it next waits for an event: it is awake, or waits for a
+    /// mutex.
+    pub fn is_busy(self) -> bool {
         match self {
-            Doing::Free => true,
-            Doing::Running
-            | Doing::Ready
-            | Doing::Input
-            | Doing::Sleep
-            | Doing::Join
-            | Doing::Mutex
-            | Doing::Condition
-            | Doing::Relock
-            | Doing::Ended
-            | Doing::Halted => false,
-        }
-    }
-
-    /// Whether it is running.
-    fn is_running(self) -> bool
-        ensures { result ≡ is_running self }
-    {
-        match self {
-            Doing::Running => true,
-            Doing::Free
-            | Doing::Ready
-            | Doing::Input
-            | Doing::Sleep
-            | Doing::Join
-            | Doing::Mutex
-            | Doing::Condition
-            | Doing::Relock
-            | Doing::Ended
-            | Doing::Halted => false,
-        }
-    }
-
-    /// Whether it is awake: it is running or ready.
-    pub(crate) fn is_awake(self) -> bool
-        ensures { result ≡ is_awake self }
-    {
-        match self {
-            Doing::Running | Doing::Ready => true,
+            Doing::Running | Doing::Ready | Doing::Mutex | Doing::Relock => true,
             Doing::Free
             | Doing::Input
             | Doing::Sleep
             | Doing::Join
-            | Doing::Mutex
             | Doing::Condition
-            | Doing::Relock
             | Doing::Ended
             | Doing::Halted => false,
         }
-    }
-
-    /// Whether a thread that goes from this to another kind is dispatched: it was ready, and runs (XSH 2.8.4).
-    pub(crate) fn is_dispatch(self, to: Doing) -> bool
-        ensures { result ≡ is_dispatch self to }
-    {
-        match self {
-            Doing::Ready => to.is_running(),
-            Doing::Free
-            | Doing::Running
-            | Doing::Input
-            | Doing::Sleep
-            | Doing::Join
-            | Doing::Mutex
-            | Doing::Condition
-            | Doing::Relock
-            | Doing::Ended
-            | Doing::Halted => false,
-        }
-    }
-
-    /// Whether a thread that goes from this to another kind wakes: it was blocked, and is awake.
-    pub(crate) fn is_wake(self, to: Doing) -> bool
-        ensures { result ≡ is_wake self to }
-    {
-        self.is_blocked() && to.is_awake()
-    }
-
-    /// Whether a thread that goes from this to another kind blocks: it was not blocked, and is now.
-    pub(crate) fn is_block(self, to: Doing) -> bool
-        ensures { result ≡ is_block self to }
-    {
-        !self.is_blocked() && to.is_blocked()
     }
 }

@@ -1,34 +1,35 @@
 #![tactic(auto)]
 
-//! What is counted of a run, each of one thing: the ticks in a partition's windows by what became of them and its steps
-//! by thread (`Counted`), what a thread did (`ThreadStatistics`), and how long a mutex was held and waited for; and the
-//! name of each call (`call_name`).
+//! What is measured of a run, and how it is added up: ticks, threads, response times, stacks, mutexes, and calls that
+//! wake threads.
 //!
-//! - What `Counted` counts goes on adding up (`adds` of `count`): the steps of the threads make up all steps, and
-//!   `used`, `idle`, `lost` and `halted` make up the partition's own ticks below the tick counted to (`own_below`).
-//! - Its steps and its lost ticks, below that tick and ahead of it, are those shown (`steps`, `lost`).
-//! - Up to the partition's next decision the ticks are those that its last one takes, lost first and then used, and
-//!   behind it those that what is shown says; the steps are of the thread that is shown (`counts`: `counts_on`).
-//! - A call has the name of the definition (`name_of`), that of its page in the standard.
-//! - Each call on a `ThreadStatistics` or a `MutexStatistics` leaves what its definition says (`turned`, `with_call`,
-//!   `with_refusal`, `owned_from`, `waited_from`), and each getter returns what is there: times are those between two
-//!   moments; of activations the number, the least, the mean and the greatest; of a mutex the longest times.
+//! - It is proved total and free of faults. `OwnClock` never counts more own ticks than there are ticks.
 //!
-//! That these are the ticks that were used, idle and after the halt is a law of the crate above. Below is the window
-//! plan; above are the figures of a run, `ptk_statistics_run`. No clause is costly to prove.
+//! `Counted` has the ticks by what became of them, `ThreadStatistics` what a thread did, `Responses` its response times,
+//! `StackUse` its stack, `MutexStatistics` who owned a mutex and waited for it, and `ConditionStatistics` the calls that
+//! wake threads; `call_name` names each call. Times are counted by all ticks and by a partition's own ones, those of its windows (`Moment`, `Span`). Below are the
+//! window plan (`ptk_window`) and what a thread does (`ptk_system`); above are the answers to `stats` (`ptk_statistics`)
+//! and decoded traces (`ptk_main_answers`). No clause is costly to prove.
 
 mod calls;
+mod clock;
+mod condition;
 mod counted;
 mod doing;
 mod moment;
 mod mutex;
 mod own;
-mod repeated;
+mod response;
+mod stack;
 mod thread;
 
 pub use calls::{CALLS, call_name};
-pub use counted::{Counted, Seen};
+pub use clock::OwnClock;
+pub use condition::{ConditionStatistics, WakeKind, Wakes};
+pub use counted::Counted;
 pub use doing::Doing;
-pub use moment::{Longest, Moment, Span, Spread};
-pub use mutex::{MutexStatistics, free_mutexes};
-pub use thread::{CallCount, Pending, ThreadStatistics, free_numbers};
+pub use moment::{Moment, Span};
+pub use mutex::{Longest, MutexStatistics};
+pub use response::Responses;
+pub use stack::{StackPlaces, StackUse};
+pub use thread::{CallCount, ThreadStatistics};

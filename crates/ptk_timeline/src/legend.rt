@@ -1,180 +1,103 @@
-//! The legend.
+//! The legend: what each kind of shape means that the picture has.
 
-ghost use Rattle.std.specs.Prelude.{◌≡◌, ◌*◌, ◌/◌, ◌%◌, ◌<◌, OnOk, map};
-ghost use Rattle.std.specs.Io.KnownBytes.{Appends};
-ghost use Rattle.ptk_timeline_rows.specs.Layout.{below, right_of};
-ghost use Rattle.ptk_timeline_rows.specs.Shapes.{words_text};
-ghost use Rattle.ptk_timeline.specs.Legend.{columns_text, each_text, entries_text, entry_text, legend_text, mark_entries, narrow_text, shade_entries};
-
-use ptk_config::Config;
-use ptk_timeline_rows::{LEFT, Rect, Scale, are_windows_wide, write_rect, write_text};
+use crate::signs::{Sign, Signs};
 use std::io;
 use std::io::Write;
 
-/// The shades, each with its words.
-const SHADES: [(&str, &str); 10] = [
-    ("running", "running, in a window of its partition"),
-    ("ready", "ready"),
-    ("mutex", "blocked: mutex"),
-    ("condition", "blocked: condition variable"),
-    ("relock", "blocked: mutex again after a condition wait"),
-    ("sleep", "blocked: sleep"),
-    ("join", "blocked: join"),
-    ("input", "blocked: console"),
-    ("ended", "ended, not yet joined"),
-    ("still", "not ended, in a halted partition"),
-];
+/// How many entries are in a line.
+const COLUMNS: u32 = 3;
 
-/// The marks, each with its words.
-const MARKS: [(&str, &str); 9] = [
-    (
-        "raised",
-        "effective priority above the assigned one (with the number, where there is room)",
-    ),
-    ("mixed", "something else too, for less long"),
-    ("window", "the partition's own window"),
-    ("others", "no window of it: its threads stand still"),
-    ("arrived", "input comes"),
-    ("dropped", "input lost"),
-    ("lost", "ticks lost at a window's end"),
-    ("halted", "the partition halts: fault or exit"),
-    ("plan", "the plan's next windows begin"),
-];
+/// How wide an entry is.
+const ENTRY: u32 = 405;
 
 /// How high a line of entries is.
-const LINE: u64 = 18;
+const LINE: u32 = 27;
 
-/// Lines of entries: this many in a line, each this wide.
-#[derive(Clone, Copy)]
-struct Lines {
-    columns: usize,
-    width: u64,
-    ghost some: { 0 < columns },
-}
+/// The room above and below the lines.
+const MARGIN: u32 = 24;
 
-impl Lines {
-    /// Where the entry of a number is, from the left.
-    fn left(self, number: usize) -> u64
-        ensures { result ≡ right_of LEFT (number % self.columns * self.width) }
-    {
-        let place = (number % self.columns) as u64;
-        LEFT.saturating_add(place.saturating_mul(self.width))
-    }
-
-    /// Where the entry of a number is, from the top.
-    fn top(self, number: usize, top: u32) -> u32
-        ensures { result ≡ below top (number / self.columns * LINE) }
-    {
-        let line = (number / self.columns) as u64;
-        let y = u64::from(top).saturating_add(line.saturating_mul(LINE));
-        y.min(u64::from(u32::MAX)) as u32
-    }
+/// How high the legend is.
+pub(crate) fn legend_height(signs: &Signs) -> u32 {
+    LINE.saturating_mul(signs.count().div_ceil(COLUMNS))
+        .saturating_add(MARGIN)
 }
 
 /// Writes the legend below `top`.
-pub(crate) fn write_legend<W: Write>(
-    out: &mut W,
-    config: &Config,
-    scale: Scale,
-    top: u32,
-) -> io::Result<()>
-    ensures { OnOk result (Appends (W.contents out.old) (W.contents out.new) (legend_text config.now scale top)) }
-{
-    write_shades(out, top)?;
-    write_marks(out, top.saturating_add(80))?;
-    write_columns(out, scale, top.saturating_add(11))?;
-    write_narrow(out, config, scale, top.saturating_add(29))
-}
-
-/// Writes the entries of the shades below `top`.
-fn write_shades<W: Write>(out: &mut W, top: u32) -> io::Result<()>
-    ensures { OnOk result (Appends (W.contents out.old) (W.contents out.new) (entries_text 3 300 top shade_entries)) }
-{
-    let lines = Lines {
-        columns: 3,
-        width: 300,
-    };
-    write_entries(out, &SHADES, lines, top)
-}
-
-/// Writes the entries of the marks below `top`.
-fn write_marks<W: Write>(out: &mut W, top: u32) -> io::Result<()>
-    ensures { OnOk result (Appends (W.contents out.old) (W.contents out.new) (entries_text 2 540 top mark_entries)) }
-{
-    let lines = Lines {
-        columns: 2,
-        width: 540,
-    };
-    write_entries(out, &MARKS, lines, top)
-}
-
-/// Writes that windows are not drawn, where they are too narrow.
-fn write_narrow<W: Write>(out: &mut W, config: &Config, scale: Scale, y: u32) -> io::Result<()>
-    ensures { OnOk result (Appends (W.contents out.old) (W.contents out.new) (narrow_text config.now scale y)) }
-{
-    if are_windows_wide(config, scale) {
-        return Ok(());
-    }
-    write_text(out, 8, y, "windows are too narrow to draw")
-}
-
-/// Writes how many ticks a column has.
-fn write_columns<W: Write>(out: &mut W, scale: Scale, y: u32) -> io::Result<()>
-    ensures { OnOk result (Appends (W.contents out.old) (W.contents out.new) (columns_text scale y)) }
-{
-    let each = scale.each();
-    if each == 1 {
-        return write_text(out, 8, y, "a column is a tick");
-    }
-    write_each(out, each, y)
-}
-
-/// Writes that a column has this many ticks.
-fn write_each<W: Write>(out: &mut W, each: u64, y: u32) -> io::Result<()>
-    ensures { OnOk result (Appends (W.contents out.old) (W.contents out.new) (each_text each y)) }
-{
-    writeln!(out, "<text x=\"8\" y=\"{y}\">a column: {each} ticks</text>")
-}
-
-/// Writes entries in lines below `top`.
-fn write_entries<W: Write>(
-    out: &mut W,
-    entries: &[(&str, &str)],
-    lines: Lines,
-    top: u32,
-) -> io::Result<()>
-    ensures { OnOk result (Appends (W.contents out.old) (W.contents out.new) (entries_text lines.columns lines.width top (map (λ entry. (entry.0.now, entry.1.now)) entries.now))) }
-{
-    for (number, entry) in entries.iter().enumerate() {
-        write_entry(
-            out,
-            entry.0,
-            entry.1,
-            lines.left(number),
-            lines.top(number, top),
-        )?;
+pub(crate) fn write_legend<W: Write>(out: &mut W, signs: &Signs, top: u32) -> io::Result<()> {
+    let mut number = 0u32;
+    for sign in Sign::ALL {
+        if signs.has(sign) {
+            let x = (number % COLUMNS).saturating_mul(ENTRY).saturating_add(8);
+            let line = (number / COLUMNS)
+                .saturating_mul(LINE)
+                .saturating_add(MARGIN / 2);
+            let (y, meaning) = (top.saturating_add(line), sign.meaning());
+            writeln!(out, "<g transform=\"translate({x} {y})\">")?;
+            write_sample(out, sign)?;
+            writeln!(out, "<text x=\"34\" y=\"14\">{meaning}</text></g>")?;
+            number = number.saturating_add(1);
+        }
     }
     Ok(())
 }
 
-/// Writes an entry.
-fn write_entry<W: Write>(out: &mut W, class: &str, words: &str, x: u64, y: u32) -> io::Result<()>
-    ensures { OnOk result (Appends (W.contents out.old) (W.contents out.new) (entry_text x y class.now words.now)) }
-{
-    let rect = Rect {
-        class,
-        x,
-        y,
-        width: 24,
-        height: 12,
-    };
-    write_rect(out, &rect)?;
-    write_words(out, words, x, y)
+/// Writes a sample of a sign, 24 pixels wide and as high as a bar, in the shape that it has in the picture.
+fn write_sample<W: Write>(out: &mut W, sign: Sign) -> io::Result<()> {
+    let (ground, shape, class) = (ground_of(sign), shape_of(sign), sign.class());
+    writeln!(out, "{ground}<{shape} class=\"{class}\"/>")
 }
 
-/// Writes the words of an entry, right of its rectangle.
-fn write_words<W: Write>(out: &mut W, words: &str, x: u64, y: u32) -> io::Result<()>
-    ensures { OnOk result (Appends (W.contents out.old) (W.contents out.new) (words_text (right_of x 30) (below y 10) words.now)) }
-{
-    write_text(out, x.saturating_add(30), y.saturating_add(10), words)
+/// What the sample of a sign has below the sign.
+fn ground_of(sign: Sign) -> &'static str {
+    match sign {
+        Sign::Raised => "<rect class=\"running\" y=\"6\" width=\"24\" height=\"11\"/>",
+        Sign::Mixed => "<rect class=\"ready\" width=\"24\" height=\"11\"/>",
+        Sign::Step => "<rect class=\"running\" width=\"24\" height=\"17\"/>",
+        Sign::Window => "<path class=\"edge\" d=\"M-.5 0v17M24.5 0v17\"/>",
+        Sign::Running
+        | Sign::Suspended
+        | Sign::Ready
+        | Sign::Mutex
+        | Sign::Condition
+        | Sign::Relock
+        | Sign::Sleep
+        | Sign::Join
+        | Sign::Input
+        | Sign::Ended
+        | Sign::Halted
+        | Sign::NoWindow
+        | Sign::NarrowWindows
+        | Sign::Arrived
+        | Sign::Dropped
+        | Sign::Lost
+        | Sign::End
+        | Sign::Plan => "",
+    }
+}
+
+/// The shape of a sign.
+fn shape_of(sign: Sign) -> &'static str {
+    match sign {
+        Sign::Running
+        | Sign::Ready
+        | Sign::Mutex
+        | Sign::Condition
+        | Sign::Relock
+        | Sign::Sleep
+        | Sign::Join
+        | Sign::Input
+        | Sign::Ended
+        | Sign::Halted
+        | Sign::Window
+        | Sign::NoWindow
+        | Sign::NarrowWindows => "rect width=\"24\" height=\"17\"",
+        Sign::Suspended => "rect y=\"6\" width=\"24\" height=\"5\"",
+        Sign::Raised => "rect y=\"1\" width=\"24\" height=\"4\"",
+        Sign::Mixed => "rect y=\"13\" width=\"24\" height=\"2\"",
+        Sign::Lost => "rect y=\"6\" width=\"24\" height=\"6\"",
+        Sign::Step => "path d=\"M6 0v17M12 0v17M18 0v17\"",
+        Sign::Arrived => "path d=\"M12 13l5 -10h-10z\"",
+        Sign::Dropped => "path d=\"M12 8m-4 -4l8 8m0 -8l-8 8\"",
+        Sign::End | Sign::Plan => "path d=\"M12 0v17\"",
+    }
 }

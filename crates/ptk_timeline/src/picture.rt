@@ -1,59 +1,22 @@
 //! The picture.
 
-ghost use Rattle.std.specs.Prelude.{◌≡◌, ◌≤◌, ◌<◌, ◌+◌, ℕ, List, IfErr, IfOk, OnOk, length, slice_get, take};
-ghost use Rattle.std.specs.Io.KnownBytes.{Appends};
+ghost use Rattle.std.specs.Prelude.{◌≡◌, ◌≢◌, ◌≤◌, ◌<◌, IfErr, IfOk};
 ghost use Rattle.ptk_words.specs.declared.TheConstants.{LAST_TICK};
-ghost use Rattle.ptk_timeline_rows.specs.World.{at_tick};
-ghost use Rattle.ptk_timeline.specs.Heads.{lane_head};
-ghost use Rattle.ptk_timeline_rows.specs.Layout.{lanes_end};
-ghost use Rattle.ptk_timeline.specs.Picture.{AreLanes, IsLane, IsLaneFrom, IsPicture, IsPictureOf, before_lanes, behind_lanes, ground, opening, style, ticks_title};
 
-use crate::axis::write_axis;
-use crate::legend::write_legend;
-use crate::marks::write_marks;
-use crate::plans::write_plans;
-use crate::windows::{write_others, write_windows};
+use crate::axis::{AXIS, write_axis, write_plan};
+use crate::grid::{Grid, MOST_COLUMNS, WIDTH};
+use crate::heading::{heading_height, write_heading};
+use crate::lanes::{lanes_height, write_grounds, write_lanes};
+use crate::legend::{legend_height, write_legend};
+use crate::signs::Signs;
+use crate::style::STYLE;
 use ptk_config::Config;
-use ptk_timeline_rows::{
-    GAP, HEAD, LEFT, Lane, MOST_COLUMNS, Names, PartStatus, Place, Recording, Scale, System, TOP,
-    lane_height, lanes_end, picture_height, picture_width, write_rows,
-};
+use ptk_timeline_segments::{Names, Recording, Scale, System};
 use ptk_words::Tick;
 use std::alloc::Global;
 use std::io;
 use std::io::Write;
 use thiserror::Error;
-
-/// How each thing looks.
-const STYLE: &str = "<style>
-text{font:11px sans-serif;fill:#212529}
-.name{font-weight:bold}
-.small{font-size:9px;fill:#495057}
-.lane{fill:#f1f3f5}
-.window{fill:#d0ebff}
-.others{fill:#f8f9fa;stroke:#ced4da;stroke-width:.5;opacity:.8}
-.grid{stroke:#868e96;stroke-width:1;opacity:.35}
-.plan{stroke:#495057;stroke-width:2;stroke-dasharray:6 3;fill:none}
-.running{fill:#2f9e44}
-.ready{fill:#ffd43b}
-.input{fill:#1c7ed6}
-.sleep{fill:#74c0fc}
-.join{fill:#9775fa}
-.mutex{fill:#e03131}
-.condition{fill:#f783ac}
-.relock{fill:#a61e4d}
-.ended{fill:#adb5bd}
-.still{fill:#dee2e6}
-.free{fill:none}
-.mixed{fill:#000000}
-.raised{fill:#fd7e14}
-.steps{stroke:#ffffff;stroke-width:1;fill:none;opacity:.8}
-.lost{fill:#862e9c}
-.dropped{fill:#0b7285}
-.arrived{fill:#22b8cf}
-.halted{fill:#7f4f24}
-</style>
-";
 
 /// Why there is no picture.
 #[derive(Clone, Copy, Debug, PartialEq, Eq, Error)]
@@ -69,25 +32,25 @@ pub enum PictureFault {
     NoTicks,
 }
 
-/// Runs the system of a configuration, which is at no tick after `from` or `to`, to a tick of at most 2^40, and writes
-/// the picture of its ticks from `from` on, with these names of its threads: that of a recording of the run. A fault
-/// where there is none of them, memory is refused or the writer fails.
+/// Runs the system of a configuration, which has just booted, to a tick of at most 2^40, and writes the picture of its
+/// ticks from `from` on, with these names of its threads and that of the configuration's file in the title. A fault if
+/// there is none of these ticks, memory is refused or the writer fails; nothing is written before the run is at its
+/// end.
 pub fn picture_with<W: Write>(
     alloc: Global,
     config: &Config,
     system: &mut System<'_>,
     names: &Names<'_, '_>,
+    file: &str,
     from: Tick,
     to: Tick,
     out: &mut W,
 ) -> Result<(), PictureFault>
     requires last { to ≤ LAST_TICK }
-    requires begun { system.old.tick ≤ from }
-    requires order { system.old.tick ≤ to }
+    requires booted { system.old.tick ≡ 0 }
     ensures some { IfOk result (λ _. from < to) }
     ensures none { IfErr result (λ fault. fault ≡ PictureFault.NoTicks → to ≤ from) }
-    ensures ran { IfOk result (λ _. system.new ≡ at_tick to system.old) }
-    ensures drawn { OnOk result ((text : List ℕ) × IsPictureOf config.now system.old names.now from to text × Appends (W.contents out.old) (W.contents out.new) text) }
+    ensures silent { IfErr result (λ fault. fault ≢ PictureFault.Write → out.new ≡ out.old) }
 {
     if to.ticks() <= from.ticks() {
         return Err(PictureFault::NoTicks);
@@ -97,193 +60,39 @@ pub fn picture_with<W: Write>(
         Ok(recording) => recording,
         Err(_) => return Err(PictureFault::Memory),
     };
-    match write_timeline(out, config, &recording, names) {
+    match write_picture(out, config, &recording, names, file) {
         Ok(()) => Ok(()),
         Err(_) => Err(PictureFault::Write),
     }
 }
 
-/// Writes the picture of a recording of a system. An error where the writer fails; what it got before is not known.
-fn write_timeline<W: Write>(
+/// Writes the picture of a recording of a file's run. An error if the writer fails; what it got before is not known.
+fn write_picture<W: Write>(
     out: &mut W,
     config: &Config,
     recording: &Recording,
     names: &Names<'_, '_>,
-) -> io::Result<()>
-    ensures { OnOk result ((text : List ℕ) × IsPicture config.now recording.now names.now text × Appends (W.contents out.old) (W.contents out.new) text) }
-{
-    let scale = recording.scale();
-    write_before_lanes(out, scale, picture_height(recording))?;
-    write_lanes(out, config, recording, names)?;
-    write_behind_lanes(out, config, scale, lanes_end(recording))
-}
-
-/// Writes what is drawn before the lanes: the picture's size, its title, its style and its ground, this high.
-fn write_before_lanes<W: Write>(out: &mut W, scale: Scale, height: u32) -> io::Result<()>
-    ensures { OnOk result (Appends (W.contents out.old) (W.contents out.new) (before_lanes scale height)) }
-{
-    let width = picture_width(scale);
-    write_opening(out, width, height)?;
-    write_ticks(out, scale.from(), scale.to())?;
-    write_style(out)?;
-    write_ground(out, width, height)
-}
-
-/// Writes the beginning of a picture of a width and a height.
-fn write_opening<W: Write>(out: &mut W, width: u64, height: u32) -> io::Result<()>
-    ensures { OnOk result (Appends (W.contents out.old) (W.contents out.new) (opening width height)) }
-{
+    file: &str,
+) -> io::Result<()> {
+    let grid = Grid::of(config, recording.scale());
+    let signs = Signs::of(config, recording, &grid);
+    let top = heading_height(config, &grid).saturating_add(AXIS);
+    let end = top.saturating_add(lanes_height(recording));
+    let height = end.saturating_add(legend_height(&signs));
     writeln!(
         out,
-        "<svg xmlns=\"http://www.w3.org/2000/svg\" width=\"100%\" viewBox=\"0 0 {width} {height}\">"
-    )
-}
-
-/// Writes the title of a picture: its ticks.
-fn write_ticks<W: Write>(out: &mut W, from: u64, to: u64) -> io::Result<()>
-    ensures { OnOk result (Appends (W.contents out.old) (W.contents out.new) (ticks_title from to)) }
-{
-    writeln!(out, "<title>ticks {from} to {to}</title>")
-}
-
-/// Writes how each thing looks.
-#[tactic(auto, unfolding(crate::specs::Picture::style))]
-fn write_style<W: Write>(out: &mut W) -> io::Result<()>
-    ensures { OnOk result (Appends (W.contents out.old) (W.contents out.new) style) }
-{
-    out.write_all(STYLE.as_bytes())
-}
-
-/// Writes the ground of a picture.
-fn write_ground<W: Write>(out: &mut W, width: u64, height: u32) -> io::Result<()>
-    ensures { OnOk result (Appends (W.contents out.old) (W.contents out.new) (ground width height)) }
-{
+        "<svg xmlns=\"http://www.w3.org/2000/svg\" width=\"100%\" viewBox=\"0 0 {WIDTH} {height}\">"
+    )?;
+    out.write_all(STYLE.as_bytes())?;
     writeln!(
         out,
-        "<rect width=\"{width}\" height=\"{height}\" fill=\"#ffffff\"/>"
-    )
-}
-
-/// Writes what is drawn behind the lanes, which end at a place: the axis and the lines of the plan, the legend, and the
-/// picture's end.
-fn write_behind_lanes<W: Write>(
-    out: &mut W,
-    config: &Config,
-    scale: Scale,
-    end: u32,
-) -> io::Result<()>
-    ensures { OnOk result (Appends (W.contents out.old) (W.contents out.new) (behind_lanes config.now scale end)) }
-{
-    write_axis(out, scale, end)?;
-    write_plans(out, config.plan(), scale, end)?;
-    write_legend(out, config, scale, end)?;
+        "<rect width=\"{WIDTH}\" height=\"{height}\" fill=\"#fff\"/>"
+    )?;
+    write_heading(out, config, &grid, recording, file)?;
+    write_grounds(out, config, &grid, recording, top)?;
+    write_axis(out, &grid, top, end)?;
+    write_lanes(out, config, &grid, recording, names, top)?;
+    write_plan(out, config.plan(), &grid, top, end)?;
+    write_legend(out, &signs, end)?;
     out.write_all(b"</svg>\n")
-}
-
-/// Writes the lanes, one below the other.
-fn write_lanes<W: Write>(
-    out: &mut W,
-    config: &Config,
-    recording: &Recording,
-    names: &Names<'_, '_>,
-) -> io::Result<()>
-    ensures { OnOk result ((text : List ℕ) × AreLanes config.now recording.now names.now (length config.now.sections) text
-        × Appends (W.contents out.old) (W.contents out.new) text) }
-{
-    let mut top = TOP;
-    for number in 0..config.parts() {
-        write_lane_from(out, config, recording, names, number, top)?;
-        top = next_top(recording, number, top);
-    }
-    Ok(())
-}
-
-/// Where the lane behind that of a number begins, if that begins at `top`.
-fn next_top(recording: &Recording, number: usize, top: u32) -> u32
-    ensures { top ≡ lanes_end (take number recording.now.lanes.items) → result ≡ lanes_end (take (number + 1) recording.now.lanes.items) }
-{
-    match recording.lanes().get(number) {
-        Some(lane) => top.saturating_add(lane_height(lane)).saturating_add(GAP),
-        None => top,
-    }
-}
-
-/// Writes the lane of the partition of a number from `top` on, nothing where there is no such partition.
-fn write_lane_from<W: Write>(
-    out: &mut W,
-    config: &Config,
-    recording: &Recording,
-    names: &Names<'_, '_>,
-    number: usize,
-    top: u32,
-) -> io::Result<()>
-    requires { number < 8 }
-    ensures { OnOk result ((text : List ℕ) × IsLaneFrom config.now recording.now.scale names.now number top
-        (slice_get recording.now.lanes.items number) (slice_get config.now.sections number) (slice_get recording.now.statuses.items number) text
-        × Appends (W.contents out.old) (W.contents out.new) text) }
-{
-    let Some(lane) = recording.lanes().get(number) else {
-        return Ok(());
-    };
-    let Some(section) = config.sections().get(number) else {
-        return Ok(());
-    };
-    let Some(status) = recording.statuses().get(number) else {
-        return Ok(());
-    };
-    let height = lane_height(lane);
-    let place = Place {
-        number,
-        top,
-        height,
-    };
-    write_lane(
-        out,
-        config,
-        recording.scale(),
-        lane,
-        section.name(),
-        *status,
-        names,
-        place,
-    )
-}
-
-/// Writes the lane of a partition of a name and a status: its windows, its head, its marks and its rows, and over these
-/// the others' windows.
-fn write_lane<W: Write>(
-    out: &mut W,
-    config: &Config,
-    scale: Scale,
-    lane: &Lane,
-    name: &str,
-    status: PartStatus,
-    names: &Names<'_, '_>,
-    place: Place,
-) -> io::Result<()>
-    ensures { OnOk result ((text : List ℕ) × IsLane config.now scale lane.now name.now status names.now place text
-        × Appends (W.contents out.old) (W.contents out.new) text) }
-{
-    write_windows(out, config, scale, place)?;
-    write_head(out, LEFT - 8, place.top.saturating_add(14), name, status)?;
-    write_marks(out, config, scale, lane, place)?;
-    let top = place.top.saturating_add(HEAD);
-    write_rows(out, scale, lane, name, names, place.part(), top)?;
-    write_others(out, config, scale, name, place)
-}
-
-/// Writes a lane's name, which has no markup character, at a place, and what its partition is at the end.
-fn write_head<W: Write>(
-    out: &mut W,
-    x: u64,
-    y: u32,
-    name: &str,
-    status: PartStatus,
-) -> io::Result<()>
-    ensures { OnOk result (Appends (W.contents out.old) (W.contents out.new) (lane_head x y name.now status)) }
-{
-    writeln!(
-        out,
-        "<text class=\"name\" x=\"{x}\" y=\"{y}\" text-anchor=\"end\">{name}<title>{name}: {status}</title></text>"
-    )
 }

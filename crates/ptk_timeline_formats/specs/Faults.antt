@@ -1,6 +1,6 @@
 -- What the fault of a run says of the configuration's files.
 use Rattle.std.specs.Prelude.{ℕ, Option, None}
-use Rattle.ptk_timeline_changes.specs.Missing.{missing_in}
+use Rattle.ptk_system.specs.Missing.{missing_in}
 use Rattle.ptk_timeline_formats.specs.declared.fault.FormatFault.{FormatFault}
 use Rattle.ptk_timeline_formats.specs.declared.fault.FormatFault.TheVariants.{Boot, FromPastEnd, Memory, Write}
 

@@ -1,11 +1,2 @@
 pub mod Faults
-pub mod Changes
-pub mod Views
-pub mod Holders
-pub mod Texts
-pub mod Traces
-pub mod Outputs
-pub mod Runs
-pub mod Reading
-pub mod Ticks
-pub use Rattle.ptk_timeline_changes.specs.Missing
+pub use Rattle.ptk_system.specs.Missing

@@ -1,16 +1,9 @@
 //! What a thread looks like at a tick.
 
-ghost use Rattle.std.specs.Prelude.{◌≡◌, ◌<◌, ◌↔◌, IsTrue, length};
-ghost use Rattle.ptk_timeline_segments.specs.declared.look.TheConstants.{SHADES};
-ghost use Rattle.ptk_words_model.specs.Priority.{thread_at};
-ghost use Rattle.ptk_system.specs.World.{state_of};
-ghost use Rattle.ptk_timeline_segments.specs.Cells.{no_look};
-ghost use Rattle.ptk_timeline_segments.specs.Histories.{look_in, owner_for, raised_of, stepping};
-ghost use Rattle.ptk_timeline_segments.specs.Shades.{place_in, place_of, shade_of, shade_of_wait};
+ghost use Rattle.std.specs.Prelude.{◌<◌};
 
-use crate::numbers::numbers_of;
-use ptk_system::{Activity, System};
-use ptk_words::{Owner, PartId, ThreadNo, Wait};
+use ptk_tracepoints::{Activity, ThreadState};
+use ptk_words::{Owner, Wait};
 
 /// How many shades there are.
 pub(crate) const SHADES: usize = 11;
@@ -45,8 +38,7 @@ pub enum Shade {
 impl Shade {
     /// Its place among the shades, from 0.
     pub(crate) fn place(self) -> usize
-        ensures value { result ≡ place_of self }
-        ensures within { result < SHADES }
+        ensures { result < SHADES }
     {
         match self {
             Shade::Free => 0,
@@ -71,60 +63,29 @@ pub struct Look {
     pub activity: Activity,
     /// The owner of the mutex that it waits for.
     pub owner: Option<Owner>,
-    /// Its effective priority, where that is above its assigned one.
+    /// Its effective priority, if that is above its assigned one.
     pub raised: Option<u8>,
 }
 
 impl Look {
     /// The look of a number that no thread has.
-    pub(crate) fn free() -> Look
-        ensures { result ≡ no_look }
-    {
-        Look {
-            activity: Activity::Free,
-            owner: None,
-            raised: None,
-        }
-    }
+    pub(crate) const FREE: Look = Look {
+        activity: Activity::Free,
+        owner: None,
+        raised: None,
+    };
 
-    /// The look of a thread of a system now.
-    pub(crate) fn of(system: &System<'_>, p: PartId, t: ThreadNo) -> Look
-        requires { p < length system.now.config.sections }
-        ensures { result ≡ look_in t (state_of system.now p).part }
-    {
-        let activity = system.activity(p, t);
-        let owner = owner_for(system, p, &activity);
-        let raised = raised(system, p, t);
+    /// The look of a thread in a state.
+    pub(crate) fn of(state: &ThreadState) -> Look {
         Look {
-            activity,
-            owner,
-            raised,
+            activity: state.activity,
+            owner: state.owner,
+            raised: state.raised(),
         }
-    }
-
-    /// The look while a step keeps the thread running: running, without an owner, with this look's raised priority.
-    pub(crate) fn stepping(&self) -> Look
-        ensures { result ≡ stepping self.now }
-    {
-        Look {
-            activity: Activity::Running,
-            owner: None,
-            raised: self.raised,
-        }
-    }
-
-    /// Whether another look is the same, owner and raised priority included.
-    pub fn is_same(&self, other: &Look) -> bool
-        ensures { IsTrue result ↔ (self.now ≡ other.now) }
-    {
-        let (own, others) = (numbers_of(self), numbers_of(other));
-        own == others
     }
 
     /// Its shade.
-    pub fn shade(&self) -> Shade
-        ensures { result ≡ shade_of self.now.activity }
-    {
+    pub fn shade(&self) -> Shade {
         match &self.activity {
             Activity::Free => Shade::Free,
             Activity::Running => Shade::Running,
@@ -137,9 +98,7 @@ impl Look {
 }
 
 /// The shade of a wait.
-fn shade_of_wait(wait: &Wait) -> Shade
-    ensures { result ≡ shade_of_wait wait.now }
-{
+fn shade_of_wait(wait: &Wait) -> Shade {
     match wait {
         Wait::InputWait => Shade::Input,
         Wait::SleepWait(_) => Shade::Sleep,
@@ -147,27 +106,5 @@ fn shade_of_wait(wait: &Wait) -> Shade
         Wait::MutexWait(_, _) => Shade::Mutex,
         Wait::ConditionWait(_, _, _) => Shade::Condition,
         Wait::RelockWait(_, _) => Shade::Relock,
-    }
-}
-
-/// The owner of the mutex that a blocked thread waits for.
-fn owner_for(system: &System<'_>, p: PartId, activity: &Activity) -> Option<Owner>
-    requires { p < length system.now.config.sections }
-    ensures { result ≡ owner_for activity.now (state_of system.now p).part }
-{
-    system.owner(p, activity.mutex()?)
-}
-
-/// The effective priority of a thread, where it is above the assigned one.
-fn raised(system: &System<'_>, p: PartId, t: ThreadNo) -> Option<u8>
-    requires { p < length system.now.config.sections }
-    ensures { result ≡ raised_of (state_of system.now p).part.locks t (thread_at (state_of system.now p).part.locks t) }
-{
-    match (
-        system.effective_priority(p, t),
-        system.assigned_priority(p, t),
-    ) {
-        (Some(level), Some(assigned)) if assigned.level() < level => Some(level),
-        _ => None,
     }
 }

@@ -1,103 +1,103 @@
 //! A thread's looks over the ticks, by columns.
 
-ghost use Rattle.std.specs.Prelude.{◌≡◌, ℕ, ◌+◌, ◌<◌, ◌≤◌, IfOk, length, max, min};
-ghost use Rattle.ptk_timeline_segments.specs.declared.look.Look.{Look as AnyLook};
-ghost use Rattle.ptk_timeline_segments.specs.Columns.{columns_of, start_of};
-
 use crate::look::Look;
 use crate::scale::Scale;
 use crate::tally::{Cell, Tally};
 use std::alloc::{AllocError, Global};
 
-/// A thread's looks from the first tick on: its columns, those before a place with all their ticks, what is known of
-/// the one at that place, and the tick up to which all is counted.
+/// A thread's looks from the first tick on: its columns, what is known of the one at hand, the look that holds, and the
+/// tick up to which all is counted.
 #[derive(Drop)]
 pub struct LaneRow {
     scale: Scale,
     cells: Vec<Cell>,
-    filled: usize,
     tally: Tally,
+    look: Look,
     counted: u64,
-    ghost count: { length cells.items ≡ columns_of scale },
-    ghost covers: { start_of scale (length cells.items) ≡ scale.to },
-    ghost within: { counted ≤ scale.to },
-    ghost begun: { start_of scale filled ≤ counted },
-    ghost open: { counted < scale.to → counted < start_of scale (filled + 1) },
-    ghost closed: { scale.to ≤ counted → start_of scale filled ≡ scale.to },
 }
 
 impl LaneRow {
-    ghost use Rattle.ptk_timeline_segments.specs.Bars.{IsBar, IsBegun};
-    ghost use Rattle.ptk_timeline_segments.specs.Rows.{HoldsOver, IsRowOf};
-
-    /// A row of no ticks yet, with room for all columns. An error where memory ran out. No other call takes memory.
-    pub(crate) fn new(alloc: Global, scale: Scale) -> Result<LaneRow, AllocError>
-        ensures scale { IfOk result (λ row. row.scale ≡ scale) }
-        ensures counted { IfOk result (λ row. row.counted ≡ scale.from) }
-        ensures right { IfOk result (λ row. (look : ℕ → AnyLook) → IsRowOf look row) }
-    {
+    /// A row of no ticks yet, which begins with a look, with room for all columns. An error if memory ran out. No other
+    /// call takes memory.
+    pub(crate) fn new(alloc: Global, scale: Scale, look: Look) -> Result<LaneRow, AllocError> {
         Ok(LaneRow {
             scale,
-            cells: vec![in alloc; Cell::empty(); scale.columns()]?,
-            filled: 0,
-            tally: Tally::new(),
+            cells: vec![in alloc; Cell::EMPTY; scale.columns()]?,
+            tally: Tally::EMPTY,
+            look,
             counted: scale.from(),
         })
     }
 
-    /// The look holds at each tick that is not counted yet up to this one, at most up to the last.
-    pub(crate) fn hold(&mut self, look: &Look, tick: u64)
-        ensures scale { self.new.scale ≡ self.old.scale }
-        ensures counted { self.new.counted ≡ max self.old.counted (min tick self.old.scale.to) }
-        ensures right { (f : ℕ → AnyLook) → IsRowOf f self.old → HoldsOver f look.now self.old.counted self.new.counted → IsRowOf f self.new }
-    {
+    /// Another look holds from a tick on.
+    pub(crate) fn turn(&mut self, look: Look, tick: u64) {
+        self.hold(tick);
+        self.look = look;
+    }
+
+    /// The look holds at each tick that is not counted yet and comes before this one.
+    pub(crate) fn hold(&mut self, tick: u64) {
         let stop = tick.min(self.scale.to());
-        while self.counted < stop {
-            self.hold_in_column(look, stop);
+        if stop <= self.counted {
+            return;
+        }
+        let column = self.scale.column_of(self.counted);
+        self.hold_in(column, stop);
+        let end = self.scale.columns_before(stop);
+        self.fill(column.saturating_add(1), end);
+        if self.counted < stop {
+            self.hold_in(end, stop);
         }
     }
 
-    /// The look holds up to a tick, of which those in the column at hand are counted.
-    fn hold_in_column(&mut self, look: &Look, tick: u64)
-        requires later { self.old.counted < tick }
-        requires within { tick ≤ self.old.scale.to }
-        ensures scale { self.new.scale ≡ self.old.scale }
-        ensures on { self.old.counted < self.new.counted }
-        ensures up_to { self.new.counted ≤ tick }
-        ensures right { (f : ℕ → AnyLook) → IsRowOf f self.old → HoldsOver f look.now self.old.counted self.new.counted → IsRowOf f self.new }
-    {
-        let end = self.scale.start_of(self.filled + 1);
-        let reached = end.min(tick);
-        self.tally.add(look, self.counted, reached);
-        self.counted = reached;
-        if reached == end {
-            self.cells[self.filled] = self.tally.cell();
-            self.filled += 1;
-            self.tally = Tally::new();
+    /// The look holds in whole columns, from one on and before another.
+    fn fill(&mut self, first: usize, end: usize) {
+        if end <= first {
+            return;
         }
+        let whole = Cell::whole(&self.look);
+        if let Some(cells) = self.cells.as_mut_slice().get_mut(first..end) {
+            put_each(cells, &whole);
+        }
+        self.counted = self.scale.start_of(end);
     }
 
-    /// The column behind the bar that begins with this one: the columns of one look, owner and raised priority
-    /// included, as many as there are.
-    pub fn bar_from(&self, first: usize) -> usize
-        requires within { first < length self.now.cells.items }
-        requires begun { IsBegun self.now.cells.items first }
-        ensures bar { IsBar self.now.cells.items first result }
-        ensures next { result < length self.now.cells.items → IsBegun self.now.cells.items result }
-    {
-        let look = self.cells[first].look;
-        for behind in first + 1..self.cells.len() {
-            if !self.cells[behind].look.is_same(&look) {
-                return behind;
+    /// The look holds in a column at each tick that is not counted yet and comes before this one.
+    fn hold_in(&mut self, column: usize, stop: u64) {
+        let end = self.scale.start_of(column.saturating_add(1));
+        let until = end.min(stop);
+        let look = self.look;
+        if until == end && self.tally.is_empty() {
+            let whole = Cell::whole(&look);
+            self.show(column, whole);
+        } else {
+            let ticks = until.saturating_sub(self.counted);
+            self.tally.add(&look, ticks);
+            if until == end {
+                let cell = self.tally.cell();
+                self.show(column, cell);
+                self.tally = Tally::EMPTY;
             }
         }
-        self.cells.len()
+        self.counted = until;
+    }
+
+    /// A column is complete.
+    fn show(&mut self, column: usize, shown: Cell) {
+        if let Some(cell) = self.cells.get_mut(column) {
+            *cell = shown;
+        }
     }
 
     /// The columns.
-    pub fn cells(&self) -> &[Cell]
-        ensures { result.now ≡ self.now.cells.items }
-    {
+    pub fn cells(&self) -> &[Cell] {
         self.cells.as_slice()
+    }
+}
+
+/// Each of the columns is this one.
+fn put_each(cells: &mut [Cell], shown: &Cell) {
+    for cell in cells.iter_mut() {
+        *cell = *shown;
     }
 }

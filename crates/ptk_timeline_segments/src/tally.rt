@@ -1,13 +1,5 @@
 //! The ticks of a column by shades, and what the column shows of them.
 
-ghost use Rattle.std.specs.Prelude.{◌≡◌, ℕ, ◌+◌, ◌<◌, ◌≤◌, slice_index};
-ghost use Rattle.ptk_words.specs.declared.TheConstants.{LAST_TICK};
-ghost use Rattle.ptk_timeline_segments.specs.declared.look.Look.{Look as AnyLook};
-ghost use Rattle.ptk_timeline_segments.specs.declared.look.TheConstants.{SHADES};
-ghost use Rattle.ptk_timeline_segments.specs.Cells.{IsCellOf, no_cell};
-ghost use Rattle.ptk_timeline_segments.specs.Rows.{HoldsOver};
-ghost use Rattle.ptk_timeline_segments.specs.Tallies.{IsTallyOf};
-
 use crate::look::{Look, SHADES};
 
 /// A column of a row.
@@ -21,71 +13,70 @@ pub struct Cell {
 
 impl Cell {
     /// The cell of a column without ticks.
-    pub(crate) fn empty() -> Cell
-        ensures { result ≡ no_cell }
-    {
+    pub(crate) const EMPTY: Cell = Cell {
+        look: Look::FREE,
+        is_mixed: false,
+    };
+
+    /// The cell of a column in which one look holds.
+    pub(crate) fn whole(look: &Look) -> Cell {
         Cell {
-            look: Look::free(),
+            look: *look,
             is_mixed: false,
         }
     }
 }
 
-/// The ticks of a column so far: how many each shade held, with its last look, and how many in all.
+/// The ticks of a column at which a shade held, and its last look there.
+#[derive(Clone, Copy)]
+struct Share {
+    look: Look,
+    ticks: u64,
+}
+
+/// The ticks of a column so far: those of each shade, and how many they are in all.
 #[derive(Clone, Copy)]
 pub(crate) struct Tally {
-    ticks: [u64; SHADES],
-    looks: [Look; SHADES],
+    shares: [Share; SHADES],
     total: u64,
 }
 
 impl Tally {
     /// The tally of no ticks.
-    pub(crate) fn new() -> Tally
-        ensures { (look : ℕ → AnyLook) (a : ℕ) → IsTallyOf look a a result }
-    {
-        Tally {
-            ticks: [0; SHADES],
-            looks: [Look::free(); SHADES],
-            total: 0,
-        }
+    pub(crate) const EMPTY: Tally = Tally {
+        shares: [Share {
+            look: Look::FREE,
+            ticks: 0,
+        }; SHADES],
+        total: 0,
+    };
+
+    /// Whether no ticks are counted.
+    pub(crate) fn is_empty(&self) -> bool {
+        self.total == 0
     }
 
-    /// Counts the ticks from one on and before another, at which the look held.
-    pub(crate) fn add(&mut self, look: &Look, from: u64, to: u64)
-        requires order { from < to }
-        requires last { to ≤ LAST_TICK }
-        ensures { (f : ℕ → AnyLook) (a : ℕ) → a ≤ from → IsTallyOf f a from self.old → HoldsOver f look.now from to → IsTallyOf f a to self.new }
-    {
+    /// Counts ticks at which the look held.
+    pub(crate) fn add(&mut self, look: &Look, ticks: u64) {
         let place = look.shade().place();
-        self.ticks[place] = self.ticks[place].saturating_add(to - from);
-        self.looks[place] = *look;
-        self.total = self.total.saturating_add(to - from);
+        self.shares[place] = Share {
+            look: *look,
+            ticks: self.shares[place].ticks.saturating_add(ticks),
+        };
+        self.total = self.total.saturating_add(ticks);
     }
 
     /// What the column shows of these ticks.
-    pub(crate) fn cell(&self) -> Cell
-        ensures { (f : ℕ → AnyLook) (a b : ℕ) → a < b → IsTallyOf f a b self.now → IsCellOf f a b result }
-    {
-        let place = self.longest();
-        Cell {
-            look: self.looks[place],
-            is_mixed: self.ticks[place] < self.total,
-        }
-    }
-
-    /// The place of the shade that held longest, of the first of these at a draw.
-    fn longest(&self) -> usize
-        ensures within { result < SHADES }
-        ensures longest { (k : ℕ) → k < SHADES → slice_index self.now.ticks k ≤ slice_index self.now.ticks result }
-        ensures first { (k : ℕ) → k < result → slice_index self.now.ticks k < slice_index self.now.ticks result }
-    {
-        let mut longest = 0;
-        for place in 1..SHADES {
-            if self.ticks[longest] < self.ticks[place] {
-                longest = place;
+    pub(crate) fn cell(&self) -> Cell {
+        let mut longest = self.shares[0];
+        for share in self.shares.iter() {
+            if longest.ticks < share.ticks {
+                longest = *share;
             }
         }
-        longest
+        Cell {
+            look: longest.look,
+            is_mixed: longest.ticks < self.total,
+        }
     }
 }

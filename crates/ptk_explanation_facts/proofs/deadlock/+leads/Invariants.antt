@@ -1,4 +1,0 @@
-use Rattle.ptk_explanation_facts.proofs.deadlock.+leads.Given as goal
-
-abbrev pub decreases-leads : goal.decreases-leads
-decreases-leads l = l.most

@@ -1,2 +1,0 @@
-pub mod Lined
-pub mod Sent

@@ -1,4 +1,0 @@
-pub mod Repeats
-pub mod Spreads
-pub mod Turns
-pub mod Joined

@@ -1,4 +1,0 @@
-pub mod HostFaults
-pub mod Lines
-pub mod Statuses
-pub mod Told

@@ -1,7 +1,0 @@
-use Rattle.std.proofs.Common.{take}
-use Rattle.std.specs.Io.KnownBytes.{Appends}
-use Rattle.ptk_statistics.specs.Tables.{numbered, thread_activations}
-use Rattle.ptk_statistics.proofs.blocks.put_activations.Given as goal
-
-abbrev pub invariant-loop-i : goal.invariant-loop-i
-invariant-loop-i g l = Appends (g.W.Write.contents l.initial.out) (g.W.Write.contents l.out) (numbered thread_activations 1 (take l.i l.threads))

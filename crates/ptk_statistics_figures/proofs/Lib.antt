@@ -1,3 +1,0 @@
-pub mod OwnTicks
-pub mod OwnFrames
-pub mod Shares

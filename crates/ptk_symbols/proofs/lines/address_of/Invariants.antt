@@ -1,9 +1,0 @@
-use Rattle.std.proofs.Common.{◌≡◌, length}
-use Rattle.ptk_symbols.specs.Tables.{address_behind}
-use Rattle.ptk_symbols.proofs.lines.address_of.Given as goal
-
-abbrev pub invariant-loop-rest : goal.invariant-loop-rest
-invariant-loop-rest l = address_behind l.address l.rest ≡ address_behind 0 l.initial.rest
-
-abbrev pub decreases-loop-rest : goal.decreases-loop-rest
-decreases-loop-rest l = length l.rest

@@ -1,5 +1,0 @@
-use Rattle.std.proofs.Common.{rules}
-use Rattle.ptk_symbols.proofs.symbols.Symbols.nearest.Goals as goal
-
-pub returns : goal.returns
-returns c = search rules

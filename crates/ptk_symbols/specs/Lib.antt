@@ -1,3 +1,0 @@
-pub mod Tables
-pub mod Reading
-pub mod Looking

@@ -1,0 +1,5 @@
+use Rattle.std.proofs.Common.{◌-◌}
+use Rattle.ptk_timeline.proofs.windows.write_running.Given as goal
+
+abbrev pub decreases-loop-window : goal.decreases-loop-window
+decreases-loop-window g l = l.to - l.tick

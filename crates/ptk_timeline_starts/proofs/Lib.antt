@@ -1,2 +1,0 @@
-pub mod Routines
-pub mod Looks
