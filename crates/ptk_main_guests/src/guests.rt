@@ -26,7 +26,7 @@ pub const ALONE: [&str; 4] = [
 ];
 
 /// What guests end with. `create` makes a thread that begins at a1, with argument a2 and priority a3; its number is
-/// in a1 then. From its call on, by tick: 0 call, 1 and 2 la, 3 sw, 4 li, 5 ecall, 17 ret, 18 behind the call. The
+/// in a1 then. From its call on, by tick: 0 call, 1 and 2 la, 3 sw, 4 li, 5 ecall, 17 ret, 18 after the call. The
 /// new thread is ready from 17 on. `letter` is a thread that puts its argument and ends: 0 li, 1 ecall, 5 ret, 6 and
 /// 10 the return gate, 14 ended.
 pub const LIBRARY: &str = "
@@ -49,20 +49,41 @@ attributes:
     .word 0             # default stack
 ";
 
-/// The configuration whose text these parts make, None where there is none.
+/// Timespecs, which come after a guest's other data: one long past, tick 100, tick 200, and one whose nanoseconds are
+/// none.
+pub const TIMES: &str = "
+past:
+    .word 0
+    .word 0
+    .word 0
+hundred:
+    .word 0
+    .word 0
+    .word 100000
+two_hundred:
+    .word 0
+    .word 0
+    .word 200000
+bad:
+    .word 0
+    .word 0
+    .word 1000000000
+";
+
+/// The configuration whose text these parts make, None if there is none.
 pub fn config_of(alloc: Global, parts: &[&str]) -> Option<Config> {
     let text = parts.concat(alloc).ok()?;
     read_config(alloc, text.as_str()).ok()
 }
 
-/// The bytes of the image of the source that these parts make, None where there is none.
+/// The bytes of the image of the source that these parts make, None if there is none.
 pub fn image_of(alloc: Global, source: &[&str]) -> Option<Vec<u8>> {
     let text = source.concat(alloc).ok()?;
     let image = assemble(alloc, text.as_str()).ok()?;
     write_image(alloc, &image).ok()
 }
 
-/// The files with these bytes as the image of p, and with these as that of q where there are some. An error where
+/// The files with these bytes as the image of p, and with these as that of q if there are some. An error if
 /// memory ran out.
 pub fn files_with(alloc: Global, p: &[u8], q: &[u8]) -> Result<Files, AllocError> {
     let mut files = Files::new(alloc);
@@ -73,7 +94,7 @@ pub fn files_with(alloc: Global, p: &[u8], q: &[u8]) -> Result<Files, AllocError
     Ok(files)
 }
 
-// The files with the image of a source, None where there are none.
+// The files with the image of a source, None if there are none.
 fn files_of(alloc: Global, source: &[&str]) -> Option<Files> {
     files_with(alloc, &image_of(alloc, source)?, &[]).ok()
 }
@@ -83,7 +104,7 @@ pub fn guest_of(alloc: Global, parts: &[&str], source: &[&str]) -> Option<(Confi
     Some((config_of(alloc, parts)?, files_of(alloc, source)?))
 }
 
-/// The report after this many ticks, None where there is none.
+/// The report after this many ticks, None if there is none.
 pub fn report_of(alloc: Global, config: &Config, files: &Files, ticks: u64) -> Option<Vec<u8>> {
     let mut out = Vec::new(alloc);
     match run_with(alloc, config, files, tick_of(ticks), &mut out) {
@@ -92,8 +113,8 @@ pub fn report_of(alloc: Global, config: &Config, files: &Files, ticks: u64) -> O
     }
 }
 
-// The trace of p after this many ticks, None where there is none.
-fn trace_of(alloc: Global, config: &Config, files: &Files, ticks: u64) -> Option<Vec<u8>> {
+/// The trace of p after this many ticks, None if there is none.
+pub fn trace_of(alloc: Global, config: &Config, files: &Files, ticks: u64) -> Option<Vec<u8>> {
     let mut out = Vec::new(alloc);
     match trace_with(alloc, config, files, tick_of(ticks), "p", &mut out) {
         Ok(()) => Some(out),
@@ -102,7 +123,7 @@ fn trace_of(alloc: Global, config: &Config, files: &Files, ticks: u64) -> Option
 }
 
 // Whether there are bytes, and they are those of the text that is wanted.
-pub(crate) fn is_text(got: Option<Vec<u8>>, want: &str) -> bool {
+fn is_text(got: Option<Vec<u8>>, want: &str) -> bool {
     match got {
         Some(got) => got.as_slice() == want.as_bytes(),
         None => false,
@@ -113,20 +134,6 @@ pub(crate) fn is_text(got: Option<Vec<u8>>, want: &str) -> bool {
 pub fn is_report(alloc: Global, parts: &[&str], source: &[&str], ticks: u64, want: &str) -> bool {
     match guest_of(alloc, parts, source) {
         Some((config, files)) => is_text(report_of(alloc, &config, &files, ticks), want),
-        None => false,
-    }
-}
-
-// Whether this is the guest's trace after this many ticks.
-pub(crate) fn is_trace(
-    alloc: Global,
-    parts: &[&str],
-    source: &[&str],
-    ticks: u64,
-    want: &str,
-) -> bool {
-    match guest_of(alloc, parts, source) {
-        Some((config, files)) => is_text(trace_of(alloc, &config, &files, ticks), want),
         None => false,
     }
 }

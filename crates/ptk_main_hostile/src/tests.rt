@@ -2,7 +2,6 @@
 
 mod calls;
 mod images;
-mod machine;
 mod refusals;
 mod storms;
 mod texts;
@@ -42,7 +41,7 @@ const HELLO: &str = "_start: li a7, 1
         ecall
 ";
 
-// The bytes with another one at a place, where they have it.
+// The bytes with another one at a place, if they have it.
 fn changed(alloc: Global, bytes: &[u8], place: usize, byte: u8) -> Result<Vec<u8>, AllocError> {
     let mut all = Vec::from_slice(alloc, bytes)?;
     if place < all.len() {

@@ -22,11 +22,18 @@ pub(crate) fn print_pictures(rt: &HostRuntime) -> Result<()> {
 fn print_picture(rt: &HostRuntime, name: &str, from: u64, to: u64) -> Result<()> {
     println!(rt; "{name}")?;
     let (config, files) = read_guest(rt, name, None)?;
-    draw(rt, &config, &files, tick_of(from), tick_of(to)).context("no picture")
+    draw(rt, &config, &files, name, tick_of(from), tick_of(to)).context("no picture")
 }
 
-// Prints the picture of a run.
-fn draw(rt: &HostRuntime, config: &Config, files: &Files, from: Tick, to: Tick) -> Result<()>
+// Prints the picture of the run of a configuration that is in a file of this name.
+fn draw(
+    rt: &HostRuntime,
+    config: &Config,
+    files: &Files,
+    name: &str,
+    from: Tick,
+    to: Tick,
+) -> Result<()>
     requires { to ≤ LAST_TICK }
 {
     let Some(mut system) = System::boot(rt.alloc(), config, files).ok() else {
@@ -38,6 +45,6 @@ fn draw(rt: &HostRuntime, config: &Config, files: &Files, from: Tick, to: Tick) 
         symbols: &symbols,
     };
     let out = &mut rt.stdout();
-    picture_with(rt.alloc(), config, &mut system, &names, from, to, out)?;
+    picture_with(rt.alloc(), config, &mut system, &names, name, from, to, out)?;
     Ok(())
 }

@@ -1,17 +1,17 @@
 //! The bytes that each request has written, for row hello with a trace of two steps, and the words of its
-//! configuration, with its image and without; and that a check and the words end where their writer fails. What is
+//! configuration, with its image and without; and that a check and the words end if their writer fails. What is
 //! wanted was worked out by hand. A helper that promises nothing is between each row and the calls that it tests.
 
 use ptk_config::{Config, read_config};
+use ptk_disasm::{Symbols, read_symbols};
 use ptk_main_commands::answers::{
     Files, RunQuestion, Watch, check_document, check_with, explain_with, run_answer, trace_answer,
 };
 use ptk_main_commands::timeline_answer;
-use ptk_main_faults::{FailureKind, Fault};
 use ptk_main_guests::guest_of;
 use ptk_main_guests::sources::HELLO;
 use ptk_main_line::{FailOn, Format, PictureFormat};
-use ptk_symbols::{Symbols, read_symbols};
+use ptk_main_tools::{FailureKind, Fault};
 use ptk_words::Tick;
 use std::alloc::Global;
 use std::io::Write;
@@ -125,12 +125,23 @@ fn picture<'a, W: Write>(
 ) -> Result<(), Fault<'a>> {
     let (from, to) = (Tick::new(u64::from(from)), Tick::new(20));
     let form = PictureFormat::Svg;
-    timeline_answer(alloc, config, files, symbols, form, from, to, out)
+    timeline_answer(
+        alloc,
+        config,
+        files,
+        symbols,
+        "hello.toml",
+        form,
+        from,
+        to,
+        out,
+    )
 }
 
-// What follows the number of a thread that starts at a routine of the name `a<b&c`.
-const NAME: &str =
-    "<svg x=\"4\" y=\"66\" width=\"106\" height=\"14\"><text x=\"0\" y=\"11\">a&lt;b&amp;c<title>thread 1 starts at a&lt;b&amp;c</title></text></svg>\n";
+// What a picture has of thread 1 whose start has no name, and of one that starts at a routine of the name `a<b&c`.
+const UNNAMED: &str = ">thread 1</text>";
+
+const NAMED: &str = ">1 a&lt;b&amp;c<title>thread 1 starts at a&lt;b&amp;c</title></text>";
 
 // Whether a picture from tick 0 on, with names by this table of symbols, is drawn.
 fn is_drawn(alloc: Global, config: &Config, files: &Files, table: &str, out: &mut Vec<u8>) -> bool {
@@ -140,16 +151,27 @@ fn is_drawn(alloc: Global, config: &Config, files: &Files, table: &str, out: &mu
     }
 }
 
-// Whether a picture is the plain one with these bytes somewhere in it and no others.
-fn is_with(plain: &[u8], named: &[u8], more: &str) -> bool {
-    match str::from_utf8(named) {
-        Ok(text) => match text.split_once(more) {
-            Some((before, after)) => {
-                plain.strip_prefix(before.as_bytes()) == Some(after.as_bytes())
-            }
-            None => false,
-        },
-        Err(_) => false,
+// Whether a picture is the plain one but for the name of thread 1.
+fn is_named(plain: &[u8], named: &[u8]) -> bool {
+    match (str::from_utf8(plain), str::from_utf8(named)) {
+        (Ok(plain), Ok(named)) => is_renamed(plain, named),
+        _ => false,
+    }
+}
+
+// Whether a text is the plain one but for the name of thread 1.
+fn is_renamed(plain: &str, named: &str) -> bool {
+    match named.split_once(NAMED) {
+        Some((head, tail)) => is_around(plain, head, tail),
+        None => false,
+    }
+}
+
+// Whether these are the parts of the plain text before and after thread 1.
+fn is_around(plain: &str, head: &str, tail: &str) -> bool {
+    match plain.split_once(UNNAMED) {
+        Some((before, after)) => before == head && after == tail,
+        None => false,
     }
 }
 
@@ -161,7 +183,7 @@ fn check_names(rt: &impl Abort, alloc: Global, config: &Config, files: &Files) {
     assert!(rt; out.as_slice() == plain.as_slice());
     let mut out = Vec::new(alloc);
     assert!(rt; is_drawn(alloc, config, files, "00000000 T a<b&c\n", &mut out));
-    assert!(rt; is_with(&plain, &out, NAME));
+    assert!(rt; is_named(&plain, &out));
 }
 
 // Asserts what a picture is without names, with a writer that has too little room, and of no tick.
@@ -204,7 +226,7 @@ const HALTED_JSON: &str =
 const REFUSED_JSON: &str =
     "{\"format\":\"ptk check 1\",\"answer\":\"refused\",\"fault\":\"ptk: config fault 2\",\"explanation\":\"key frame: missing\\n\"}\n";
 
-// Whether a run is not as expected from its byte 44 on, where `i` is in place of `o`, and has its report all the same.
+// Whether a run is not as expected from its byte 44 on, with `i` in place of `o`, and has its report all the same.
 fn is_other(alloc: Global, config: &Config, files: &Files, question: &RunQuestion<'_>) -> bool {
     let mut out = Vec::new(alloc);
     let differs = Fault::Differs(44, 3, Some(105), Some(111));
@@ -297,11 +319,7 @@ fn a_run_fails_on_its_kinds(rt: HostRuntime) {
     match read_config(alloc, HELLO_TEXT) {
         Ok(config) => {
             let kinds = RunQuestion {
-                fail_on: FailOn {
-                    fault: false,
-                    refused: true,
-                    idle: false,
-                },
+                fail_on: FailOn::NONE.with(FailureKind::Refused),
                 ..run_to(20)
             };
             let mut out = Vec::new(alloc);

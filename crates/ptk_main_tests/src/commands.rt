@@ -1,5 +1,5 @@
 //! What the program does with the words of its command line, over real files: the status of each request, the files
-//! that it writes, and behind the statuses that several faults share the fault itself. What is wanted comes from the
+//! that it writes, and the fault itself if several faults share a status. What is wanted comes from the
 //! table of lines and statuses. Each test that has files is a process of its own, and works in a folder of its own,
 //! which it removes. A helper that promises nothing is between the rows and the calls that it tests.
 
@@ -10,9 +10,9 @@ use ptk_main_commands::{
     answer_words, bytes_in, check_config, config_in, disasm_file, put_place, refusal_explained,
     text_in, unread, usage,
 };
-use ptk_main_faults::Fault;
 use ptk_main_guests::P;
 use ptk_main_line::{CheckOptions, DisasmOptions, Format};
+use ptk_main_tools::Fault;
 use std::alloc::AllocError;
 use std::process::Abort;
 use std::{env, fs, io};
@@ -80,7 +80,7 @@ const BYTES: [(&str, &[u8]); 6] = [
 ];
 
 /// Command lines with their statuses, in this order: some read what others before them wrote.
-const COMMANDS: [(&str, u8); 88] = [
+const COMMANDS: [(&str, u8); 99] = [
     ("ptk", 2),
     ("ptk --help", 0),
     ("ptk run alone.toml --ticks 1099511627777", 2),
@@ -116,6 +116,28 @@ const COMMANDS: [(&str, u8); 88] = [
     ("ptk run alone.toml --ticks 20 --expect right", 0),
     ("ptk run alone.toml --ticks 20 --expect wrong", 4),
     ("ptk run alone.toml --ticks 20 --expect none", 1),
+    // a run that fails on what a partition is: it ends after 9 steps with status 0, and has 2 bytes of output
+    ("ptk run bad.toml --ticks 20 --fail-on fault,idle", 0),
+    ("ptk run bad.toml --ticks 20 --fail-on idle,refused", 4),
+    ("ptk run alone.toml --ticks 3 --fail-on running", 4),
+    ("ptk run alone.toml --ticks 3 --fail-on exit,exit", 0),
+    (
+        "ptk run alone.toml --ticks 20 --fail-on exit,running,lost-input,full-output,deadlock,late,stack",
+        0,
+    ),
+    (
+        "ptk run alone.toml --ticks 20 --fail-on late --deadline z:1=5",
+        1,
+    ),
+    ("ptk run alone.toml --ticks 20 --fail-on halted", 2),
+    // figures
+    (
+        "ptk stats alone.toml --ticks 20 --from 5 --stack --deadline p:1=20",
+        0,
+    ),
+    ("ptk stats alone.toml --ticks 20 --from 21", 1),
+    ("ptk stats alone.toml --ticks 20 --deadline z:1=5", 1),
+    ("ptk stats alone.toml --ticks 20 --deadline p:33=5", 2),
     ("ptk run alone.toml --ticks 20 --root .", 0),
     ("ptk run alone.toml --ticks 20 --root none", 1),
     ("ptk trace alone.toml --ticks 20 --partition p", 0),
@@ -416,7 +438,7 @@ fn check_unconfigured(rt: &impl Abort, host: &HostRuntime) {
     }
 }
 
-// Asserts what `check` says of each configuration, where it explains, or where it does not.
+// Asserts what `check` says of each configuration, whether it explains or not.
 fn check_checked(rt: &impl Abort, host: &HostRuntime, explain: bool) {
     for (file, fault) in CHECKS.iter() {
         assert!(rt; is_checked(host, file, explain, fault), "{file}");
@@ -430,7 +452,7 @@ fn check_left(rt: &impl Abort, host: &HostRuntime) {
     }
 }
 
-// Whether a fault of an empty text stays as it is where it is explained.
+// Whether a fault of an empty text stays as it is if it is explained.
 fn is_kept(rt: &HostRuntime, fault: Fault<'static>) -> bool {
     refusal_explained(rt.alloc(), "", fault, &mut rt.stdout()) == fault
 }

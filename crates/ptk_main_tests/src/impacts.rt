@@ -5,9 +5,9 @@ use crate::parts::{FIRST, FRAME, NUMBERS, SECOND};
 use crate::statistics::EXIT;
 use ptk_main_commands::answers::{run_with, trace_with};
 use ptk_main_commands::impacts::{Question, Release, impact_json_with, impact_with};
-use ptk_main_faults::Fault;
 use ptk_main_guests::{Config, Files, P, config_of, image_of};
 use ptk_main_line::Format;
+use ptk_main_tools::Fault;
 use ptk_words::Tick;
 use std::alloc::Global;
 use std::process::Abort;
@@ -91,7 +91,7 @@ const PILOT_AS_P: Question<'static> = Question {
     rename: Some("p=pilot"),
 };
 
-/// An input byte of p, the same byte a tick later, and another one behind it.
+/// An input byte of p, the same byte a tick later, and another one after it.
 const BYTE: &str = "input = [{ at = 5, bytes = [65] }]\n";
 
 const LATER_BYTE: &str = "input = [{ at = 6, bytes = [65] }]\n";
@@ -465,7 +465,7 @@ fn is_run(alloc: Global, config: &Config, files: &Files, tick: u32, out: &mut Ve
         && trace_with(alloc, config, files, tick, "q", out).is_ok()
 }
 
-// What is written then, None where the text is refused.
+// What is written then, None if the text is refused.
 fn run_of(alloc: Global, text: &[&str], files: &Files, tick: u32) -> Option<Vec<u8>> {
     let config = config_of(alloc, text)?;
     let mut out = Vec::new(alloc);
@@ -473,7 +473,7 @@ fn run_of(alloc: Global, text: &[&str], files: &Files, tick: u32) -> Option<Vec<
     if is_written { Some(out) } else { None }
 }
 
-// Whether both configurations of the case have the same report and traces at a tick, None where a text is refused.
+// Whether both configurations of the case have the same report and traces at a tick, None if a text is refused.
 fn runs_alike(alloc: Global, case: &Case<'_>, files: &Files, tick: u32) -> Option<bool> {
     match (
         run_of(alloc, case.old, files, tick),

@@ -10,5 +10,5 @@ pub(crate) const NUMBERS: &str =
 /// The window of p: the first 20 ticks of a frame.
 pub(crate) const FIRST: &str = "[[window]]\nstart = 0\nlength = 20\npartition = \"p\"\n";
 
-/// The window of q: the 20 ticks behind them.
+/// The window of q: the 20 ticks after them.
 pub(crate) const SECOND: &str = "[[window]]\nstart = 20\nlength = 20\npartition = \"q\"\n";

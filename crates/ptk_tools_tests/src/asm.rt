@@ -75,7 +75,7 @@ pub(crate) fn are_words(bytes: &[u8], words: &[u32]) -> bool {
     let mut rest = bytes;
     for word in words {
         match rest.strip_prefix(word.to_le_bytes().as_slice()) {
-            Some(behind) => rest = behind,
+            Some(tail) => rest = tail,
             None => return false,
         }
     }
@@ -225,7 +225,7 @@ const FAULTS: [(&str, usize, usize, usize, u8); 31] = [
     (".bss\n.space 1048575\n.space 2", 3, 20, 26, 4),
 ];
 
-/// The line, the bytes and the number of a source's fault, None where there is none.
+/// The line, the bytes and the number of a source's fault, None if there is none.
 fn fault_of(alloc: Global, source: &str) -> Option<(usize, usize, usize, u8)> {
     match assemble(alloc, source) {
         Ok(_image) => None,
@@ -263,7 +263,7 @@ fn sections_of_the_greatest_size(rt: HostRuntime) -> Result<(), Fail> {
     Ok(())
 }
 
-/// The length of the text of a source's image, None where it has none.
+/// The length of the text of a source's image, None if it has none.
 fn text_length(alloc: Global, source: &str) -> Option<usize> {
     match assemble(alloc, source) {
         Ok(image) => Some(image.text().len()),

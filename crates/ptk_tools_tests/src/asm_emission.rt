@@ -18,7 +18,7 @@ const STATEMENTS: [(Form, usize, i64); 8] = [
     (Form::Word, 0, 258), // .word 258
 ];
 
-// Their bytes, one behind the other.
+// Their bytes, one after the other.
 const WORDS: [u32; 8] = [
     0xffc1_2083,
     0x0011_2423,

@@ -47,7 +47,7 @@ fn no_text_has_a_longer_section(rt: HostRuntime) {
     assert!(rt; refusal == Some(DisasmFault::TooLong(Section::Bss)));
 }
 
-// Memory is ample here; where it is refused (`rt try --test --fail-alloc N`), the call says so and succeeds as it is
+// Memory is ample here; if it is refused (`rt try --test --fail-alloc N`), the call says so and succeeds as it is
 // asked again.
 #[test]
 fn a_text_is_refused_memory_alone(rt: HostRuntime) {

@@ -1,11 +1,11 @@
 //! The bytes of row hello's run as a Value Change Dump and as trace events, with one thread number; that a first tick
-//! that is not before the last is refused, and that a run ends where its writer fails. What is wanted was worked out by
+//! that is not before the last is refused, and that a run ends if its writer fails. What is wanted was worked out by
 //! hand: the steps begin at ticks 0, 1, 2, 6, 7, 8, 12, 13 and 14, and the last one halts the partition. And the trace
 //! events of a run in which a cancellation ends a wait for input, and the partition halts while a thread waits.
 
+use ptk_disasm::{Symbols, read_symbols};
 use ptk_main_guests::sources::HELLO;
 use ptk_main_guests::{Config, Files, guest_of};
-use ptk_symbols::{Symbols, read_symbols};
 use ptk_timeline_formats::{Form, FormatFault, dump_with};
 use ptk_words::Tick;
 use std::alloc::Global;

@@ -42,7 +42,7 @@ fn the_worked_bytes_are_read_and_written(rt: HostRuntime) {
     assert!(rt; is_read(rt.alloc(), &EMPTY, b""));
 }
 
-// The number of the fault that the bytes have, 0 where they are an image.
+// The number of the fault that the bytes have, 0 if they are an image.
 fn fault_of(alloc: Global, bytes: &[u8]) -> u8 {
     match read_image(alloc, bytes) {
         Ok(_image) => 0,

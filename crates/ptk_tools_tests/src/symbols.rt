@@ -2,7 +2,7 @@
 //! was worked out by hand.
 
 use ptk_asm::label_table;
-use ptk_symbols::{SymbolFault, Symbols, read_symbols};
+use ptk_disasm::{SymbolFault, Symbols, read_symbols};
 use std::alloc::{AllocError, Global};
 use std::test::Fail;
 
@@ -10,7 +10,7 @@ use std::test::Fail;
 const TABLE: &str =
     "00000004 T _start\n0000001c t .loop$1\r\n0000001C T second\n00000040 B counter\n";
 
-/// Addresses, and what is written behind them: by the symbol that begins there, and by the nearest one.
+/// Addresses, and what is written after them: by the symbol that begins there, and by the nearest one.
 const PLACES: [(u32, &str, &str); 6] = [
     (0x0, "", ""),
     (0x4, " <_start>", " <_start>"),

@@ -3,8 +3,8 @@
 use clap::Error;
 use clap::error::ErrorKind;
 use ptk_main_line::{
-    Format, PictureFormat, Request, RunOptions, TimelineOptions, TraceOptions, not_text, read_line,
-    undecoded,
+    FAILURE_KINDS, FailOn, FailureKind, Format, NamedDeadline, PictureFormat, Request, RunOptions,
+    StatsOptions, TimelineOptions, TraceOptions, not_text, read_line, undecoded,
 };
 use std::alloc::{AllocError, Global};
 use std::process::Abort;
@@ -22,7 +22,7 @@ fn is_refused(alloc: Global, words: &[&str], kind: ErrorKind, is_usage: bool) ->
     }
 }
 
-/// What the words ask for, `None` where they are refused.
+/// What the words ask for, None if they are refused.
 fn request<'a>(alloc: Global, words: &'a [&'a str]) -> Option<Request<'a>> {
     read_line(alloc, words).ok()
 }
@@ -39,7 +39,9 @@ const RUN: &[&str] = &[
     "--expect",
     "a.report",
     "--fail-on",
-    "idle,fault",
+    "idle,fault,lost-input,idle",
+    "--deadline",
+    "p:1=20,a-b:32=1099511627776",
     "--until-halted",
     "--quiet",
     "--format",
@@ -69,13 +71,29 @@ fn has_texts_of_run(options: &RunOptions<'_>) -> bool {
         && options.run.ticks == 1_099_511_627_776
         && is_text(options.run.root, "d")
         && is_text(options.expect, "a.report")
+        && is_text(options.deadline, "p:1=20,a-b:32=1099511627776")
+}
+
+/// The kinds of `RUN`.
+const KINDS: [FailureKind; 3] = [
+    FailureKind::Fault,
+    FailureKind::Idle,
+    FailureKind::LostInput,
+];
+
+/// Whether these are the kinds of `RUN` and no others.
+fn has_kinds_of_run(fail_on: FailOn) -> bool {
+    for kind in FAILURE_KINDS.iter() {
+        if fail_on.has(*kind) != KINDS.contains(kind) {
+            return false;
+        }
+    }
+    true
 }
 
 /// Whether these are the other options of `RUN`.
 fn has_choices_of_run(options: &RunOptions<'_>) -> bool {
-    options.fail_on.fault
-        && !options.fail_on.refused
-        && options.fail_on.idle
+    has_kinds_of_run(options.fail_on)
         && options.until_halted
         && options.quiet
         && options.explain
@@ -140,7 +158,7 @@ const TIMELINE: &[&str] = &[
     "a.sym",
 ];
 
-/// The options of these words of `trace`, `None` where they are none.
+/// The options of these words of `trace`, None if they are none.
 fn trace_of<'a>(alloc: Global, words: &'a [&'a str]) -> Option<TraceOptions<'a>> {
     match request(alloc, words)? {
         Request::Trace(options) => Some(options),
@@ -195,8 +213,81 @@ fn reads_timeline(rt: HostRuntime) {
     assert!(rt; is_timeline(&options));
 }
 
+/// Words of `stats` with each of its options, and with none.
+const STATS: &[&str] = &[
+    "ptk",
+    "stats",
+    "a.toml",
+    "--ticks",
+    "20",
+    "--from",
+    "7",
+    "--deadline",
+    "p:2=5",
+    "--stack",
+];
+
+const PLAIN_STATS: &[&str] = &["ptk", "stats", "a.toml", "--ticks", "20"];
+
+/// The options of these words of `stats`, None if they are none.
+fn stats_of<'a>(alloc: Global, words: &'a [&'a str]) -> Option<StatsOptions<'a>> {
+    match request(alloc, words)? {
+        Request::Stats(options) => Some(options),
+        _ => None,
+    }
+}
+
+#[test]
+fn reads_stats(rt: HostRuntime) {
+    let Some(options) = stats_of(rt.alloc(), STATS) else {
+        rt.abort()
+    };
+    assert!(rt; is_number(options.from, 7) && is_text(options.deadline, "p:2=5") && options.stack);
+    let Some(options) = stats_of(rt.alloc(), PLAIN_STATS) else {
+        rt.abort()
+    };
+    assert!(rt; options.from.is_none() && options.deadline.is_none() && !options.stack);
+}
+
+/// Words of deadlines, and what they name: a partition, a thread and ticks.
+const DEADLINES: [(&str, &str, u8, u64); 2] = [
+    ("p:1=20", "p", 1, 20),
+    ("a-b:32=1099511627776", "a-b", 32, 1_099_511_627_776),
+];
+
+/// Words that name no deadline.
+const NO_DEADLINES: [&str; 7] = [
+    "p:0=20",
+    "p:33=20",
+    "p:1=1099511627777",
+    "p:1=",
+    "p=20",
+    "1=20",
+    "",
+];
+
+/// Whether a word names this deadline.
+fn is_deadline(word: &str, partition: &str, thread: u8, ticks: u64) -> bool {
+    match NamedDeadline::read(word) {
+        Some(found) => {
+            found.partition == partition && found.thread == thread && found.ticks == ticks
+        }
+        None => false,
+    }
+}
+
+#[test]
+fn reads_deadlines(rt: HostRuntime) {
+    for (word, partition, thread, ticks) in DEADLINES.iter() {
+        assert!(rt; is_deadline(word, partition, *thread, *ticks), "{word}");
+    }
+    for word in NO_DEADLINES.iter() {
+        assert!(rt; NamedDeadline::read(word).is_none(), "{word}");
+    }
+}
+
 /// Words, and the kind of their error. Help alone does not go to stderr.
-const REFUSALS: [(&[&str], ErrorKind); 21] = [
+const REFUSALS: [(&[&str], ErrorKind); 23] = [
     (
         &["ptk", "run", "a.toml", "--ticks", "1099511627777"],
         ErrorKind::ValueValidation,
@@ -219,6 +310,30 @@ const REFUSALS: [(&[&str], ErrorKind); 21] = [
     ),
     (
         &["ptk", "run", "a.toml", "--ticks", "20", "--fail-on", "halt"],
+        ErrorKind::InvalidValue,
+    ),
+    (
+        &[
+            "ptk",
+            "run",
+            "a.toml",
+            "--ticks",
+            "20",
+            "--fail-on",
+            "idle,",
+        ],
+        ErrorKind::InvalidValue,
+    ),
+    (
+        &[
+            "ptk",
+            "stats",
+            "a.toml",
+            "--ticks",
+            "20",
+            "--deadline",
+            "p=5",
+        ],
         ErrorKind::InvalidValue,
     ),
     (
@@ -351,7 +466,7 @@ fn help_says_the_statuses_and_an_example(rt: HostRuntime) {
     }
 }
 
-/// Whether there is an error, of this kind, which goes to stderr; it is not where memory ran out.
+/// Whether there is an error, of this kind, which goes to stderr; it is not if memory ran out.
 fn is_usage(error: Result<Error, AllocError>, kind: ErrorKind) -> bool {
     match error {
         Ok(error) => is_error(&error, kind, true),

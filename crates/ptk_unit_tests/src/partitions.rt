@@ -8,8 +8,7 @@ use ptk_gate_pools::Pools;
 use ptk_kernel::Tables;
 use ptk_keys::KeyTable;
 use ptk_regions::Regions;
-use ptk_words::{Arrival, Limits, PartId, Status, Tick};
-use ptk_words_parted::Parted;
+use ptk_words::{Arrival, Limits, PartId, Parted, Status, Tick};
 use std::alloc::AllocError;
 
 /// The numbers of a section.

@@ -3,15 +3,26 @@
 ghost use Rattle.std.specs.Prelude.{◌≡◌, ◌<◌, ◌≤◌, length, All, IfOk};
 ghost use Rattle.ptk_threads.specs.Table.{free_table};
 
-use crate::mutexes::thread_of;
 use ptk_ready::{Line, LinkedLine, VecLine};
 use ptk_threads::Threads;
-use ptk_words::{PartId, Priority, Thread, ThreadNo};
+use ptk_words::{Cpu, PartId, Phase, Policy, Priority, Thread, ThreadNo};
 use std::alloc::{AllocError, Global};
 use std::process::Abort;
 
+/// A new thread at address 0, which is no main thread.
 fn new_thread() -> Thread {
-    thread_of(Priority::new(16))
+    Thread {
+        cpu: Cpu::at(0),
+        policy: Policy::Fifo,
+        priority: Priority::new(16),
+        used: 0,
+        is_main: false,
+        is_detached: false,
+        joiner: None,
+        result: 0,
+        phase: Phase::Normal,
+        wait: None,
+    }
 }
 
 /// A table with as many slots as these counts, of which the second partition's are all in use. The counts are no

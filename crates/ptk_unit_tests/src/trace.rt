@@ -1,6 +1,6 @@
 //! What traces write after a boot with ample memory, and what they return where the writer fails.
 
-use ptk_gate_boot::{Memories, Trace};
+use ptk_gate_memory::{Memories, Trace};
 use ptk_words::{A0, Cpu, Entry, PartId, ThreadNo, Tick};
 use std::alloc::{AllocError, Global};
 

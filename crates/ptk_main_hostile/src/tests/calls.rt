@@ -53,7 +53,7 @@ again:
 const NEIGHBOURS_PART: &str =
     "partition q running steps 92 lost 18\noutput 30\nhhhhhhhhhhhhhhhhhhhhhhhhhhhhhh\n";
 
-/// The report where the number is no call. A round takes 11 ticks, of which the call has 2; in the first and in the
+/// The report if the number is no call. A round takes 11 ticks, of which the call has 2; in the first and in the
 /// sixth window it does not fit.
 const NO_CALL: &str =
     "partition p running steps 180 lost 2\noutput 0\n\npartition q running steps 92 lost 18\noutput 30\nhhhhhhhhhhhhhhhhhhhhhhhhhhhhhh\n";
@@ -78,7 +78,7 @@ struct World {
     neighbour: Vec<u8>,
 }
 
-// The world, None where memory ran out.
+// The world, None if memory ran out.
 fn world_of_calls(alloc: Global) -> Option<World> {
     let mut caller = image_of(alloc, &[CALLER])?;
     let length = caller.len().saturating_sub(24);
@@ -99,7 +99,7 @@ fn caller_with(alloc: Global, caller: &[u8], words: &[u32]) -> Result<Vec<u8>, A
     Ok(image)
 }
 
-// The report after 400 ticks where p makes the call with these words, a number and five arguments.
+// The report after 400 ticks if p makes the call with these words, a number and five arguments.
 fn report_with(alloc: Global, world: &World, words: &[u32]) -> Option<Vec<u8>> {
     let image = caller_with(alloc, &world.caller, words).ok()?;
     let files = files_with(alloc, &image, &world.neighbour).ok()?;
@@ -123,7 +123,7 @@ fn is_harmless(report: &[u8]) -> bool {
             || report.starts_with(b"partition p fault "))
 }
 
-// Whether the call with the one argument in a0 and a3, and the other in a1, a2 and a4, does no harm; where the number
+// Whether the call with the one argument in a0 and a3, and the other in a1, a2 and a4, does no harm; if the number
 // is no call, it does nothing at all.
 fn is_answered(alloc: Global, world: &World, number: u32, one: u32, other: u32) -> bool {
     match report_with(alloc, world, &[number, one, other, other, one, other]) {

@@ -5,7 +5,7 @@ use ptk_main_guests::{Config, config_of, files_with, image_of, report_of};
 use std::alloc::{AllocError, Global};
 use std::process::Abort;
 
-// How the report of an image begins after 20 ticks: `want`, or with nothing where that is empty.
+// How the report of an image begins after 20 ticks: `want`, or with nothing if that is empty.
 fn begins(alloc: Global, config: &Config, image: &[u8], want: &str) -> bool {
     match files_with(alloc, image, &[]) {
         Ok(files) => match report_of(alloc, config, &files, 20) {
@@ -44,7 +44,7 @@ const WHOLE: &str = "partition p exit 0 steps 9 lost 0\noutput 2\nhi\n";
 /// That of one whose bss does not fit.
 const TOO_LONG: &str = "partition p refused image 7 steps 0 lost 0\noutput 0\n\n";
 
-// How the report begins where a byte of the header, or of the text, is another. A bss of up to 255 bytes fits.
+// How the report begins if a byte of the header, or of the text, is another. A bss of up to 255 bytes fits.
 fn beginning(place: usize) -> &'static str {
     match place {
         0..=3 => "partition p refused image 2 steps 0 lost 0\noutput 0\n\n",

@@ -99,7 +99,7 @@ fn an_image_is_refused_memory_as_it_is_read(rt: HostRuntime) {
     assert!(rt; image(&rt, rt.alloc()).is_some());
 }
 
-// Writes an image, twice where memory is refused.
+// Writes an image, twice if memory is refused.
 fn written(alloc: Global, image: &Image) -> Option<Vec<u8>> {
     match write_image(alloc, image) {
         Ok(bytes) => Some(bytes),
@@ -137,7 +137,7 @@ fn a_source_is_refused_memory(rt: HostRuntime) {
     }
 }
 
-// Adds a file, twice where memory is refused: then nothing of the files changed.
+// Adds a file, twice if memory is refused: then nothing of the files changed.
 fn add(rt: &impl Abort, files: &mut Files, name: &str, content: &[u8], before: Option<&[u8]>) {
     if files.add(name, content).is_err() {
         assert!(rt; files.get(name) == before);

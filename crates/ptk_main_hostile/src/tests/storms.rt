@@ -4,6 +4,7 @@
 
 mod guests;
 mod neighbours;
+mod sources;
 
 use guests::{DEADLINES, GUESTS, Guest};
 use neighbours::{Besides, STORMS, Storm};
@@ -152,7 +153,7 @@ fn part_of_p(world: World, report: &[u8]) -> Option<&[u8]> {
     }
 }
 
-// The part of q in a report that has this part of p, None where it has not.
+// The part of q in a report that has this part of p, None if it has not.
 fn part_of_q<'a>(world: World, report: &'a [u8], part_of_p: &[u8]) -> Option<&'a [u8]> {
     match world {
         World::QLast | World::Swapped => report.strip_prefix(part_of_p),

@@ -32,7 +32,7 @@ z: .space 1048576
  j _start
 ";
 
-// The number of the fault of these bytes as a configuration, 0 where there is none, and 1 where they are no text.
+// The number of the fault of these bytes as a configuration, 0 if there is none, and 1 if they are no text.
 fn config_fault(alloc: Global, bytes: &[u8]) -> u8 {
     match str::from_utf8(bytes) {
         Ok(text) => match read_config(alloc, text) {
@@ -43,7 +43,7 @@ fn config_fault(alloc: Global, bytes: &[u8]) -> u8 {
     }
 }
 
-// Whether the configuration is refused, for another cause than memory, where it is cut to this many bytes.
+// Whether the configuration is refused, for another cause than memory, if it is cut to this many bytes.
 fn is_refused(alloc: Global, left: usize) -> bool {
     match FIRST_PATH.as_bytes().get(..left) {
         Some(bytes) => {
@@ -118,7 +118,7 @@ fn lines_of(source: &str) -> usize {
         .saturating_add(1)
 }
 
-// Whether these bytes, where they are a text, give an image that is read again, or a fault of another cause than memory
+// Whether these bytes, if they are a text, give an image that is read again, or a fault of another cause than memory
 // in a line of the text and at bytes of it.
 fn is_assembled(alloc: Global, bytes: &[u8]) -> bool {
     match str::from_utf8(bytes) {

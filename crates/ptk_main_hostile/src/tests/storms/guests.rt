@@ -1,6 +1,6 @@
 //! The guests of p.
 
-use ptk_main_guests::{
+use super::sources::{
     BY_RETURN, CANCELLED_WAITER, EXPIRED_WAIT, INHERIT_BASIC, OWNER_DIED, SET_AGAIN,
 };
 
@@ -9,7 +9,7 @@ use ptk_main_guests::{
 pub struct Guest {
     /// Its name in what a failed test says.
     pub name: &'static str,
-    /// Its source, behind which the library and the times stand.
+    /// Its source, after which come the library and the times.
     pub source: [&'static str; 2],
     /// How its part of the report begins.
     pub begins: &'static str,

@@ -16,7 +16,7 @@ pub enum Besides {
 pub struct Storm {
     /// Its name in what a failed test says.
     pub name: &'static str,
-    /// Its source, behind which the library and the times stand.
+    /// Its source, after which come the library and the times.
     pub source: &'static str,
     /// What q is given besides.
     pub besides: Besides,

@@ -3,7 +3,7 @@ use Rattle.std.proofs.lemmas.List.{length-map}
 use Rattle.std.specs.Prelude.{Option, Some, None}
 use Rattle.ptk_words.specs.Pools.{least_free}
 use Rattle.ptk_words.specs.declared.threads.Thread.{Thread}
-use Rattle.ptk_words_parted.specs.Parts.{part_of}
+use Rattle.ptk_words.specs.Parts.{part_of}
 use Rattle.ptk_threads.specs.Table.{ThreadTable, with_new_at}
 use Rattle.ptk_ready.proofs.Unused.{length_new}
 use Rattle.ptk_unit_tests.proofs.ready_lines.table.Goals as goal
